@@ -1,0 +1,4 @@
+mod Adding
+mod Concluding
+mod Pairing
+pub mod Trusted

@@ -1,0 +1,6 @@
+pub mod Counting
+pub mod Faults
+pub mod Kinds
+pub mod Made
+pub mod Numbering
+pub mod Parting

@@ -1,0 +1,4 @@
+pub mod Table
+pub mod Bodies
+pub mod Reading
+pub mod Steps

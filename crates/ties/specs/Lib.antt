@@ -1,0 +1,3 @@
+pub mod Layouts
+pub mod Equations
+pub mod Faults
