@@ -4,6 +4,8 @@ use Prim.Native.Nat.{ℕ, _+_, _-_, _*_, _%_, _^_, _<_, _≤_, min, zero, suc}
 use mathlib.Core.Path.{_≡_}
 use mathlib.Core.Bool.{cond}
 use lib.Dec.{leb}
+use Rattle.std.specs.declared.option.Option.{Option}
+use Rattle.std.specs.Options.{Cases}
 use Rattle.scale.specs.declared.Mark.{Mark}
 
 -- what a scale means: its mark, one, the step, and its functions at codes
@@ -52,6 +54,10 @@ power m (suc k) = m .product (m .step) (power m k)
 -- `c` is a quotient of `a` by `b`
 abbrev pub Quotient : Meaning → ℕ → ℕ → ℕ → Type 0
 Quotient m a b c = Code m c × (m .product b c ≡ a)
+
+-- what the quotient of `a` by `b` answers: it is there exactly when the level of `a` is at least that of `b`
+abbrev pub Divided : Meaning → ℕ → ℕ → Option ℕ → Type 0
+Divided m a b r = Cases r (m .level a < m .level b) (λ c. (m .level b ≤ m .level a) × Quotient m a b c)
 
 -- the laws of a scale
 pub record Laws (m : Meaning) : Type 0 where

@@ -1,10 +1,8 @@
 // The arithmetic of one sort of wrapping counter.
 
-ghost use Prim.Native.Nat.{_<_, _≤_};
 ghost use mathlib.Core.Path.{_≡_};
-ghost use Rattle.std.specs.Options.{Cases};
 ghost use Rattle.std.specs.Orderings.{Decides};
-ghost use Rattle.scale.specs.Meaning.{Code, Laws, Meaning, Quotient, power, reading};
+ghost use Rattle.scale.specs.Meaning.{Code, Divided, Laws, Meaning, power, reading};
 
 // A scale's kind, digit base and length in digits.
 #[derive(Clone, Copy, PartialEq, Eq, Debug)]
@@ -44,7 +42,7 @@ pub trait Scale {
 
     // Some `c` with `b` times `c` equal to `a`: there exactly when the level of `a` is at least that of `b`.
     fn quotient(&self, a: u32, b: u32) -> Option<u32>
-        ensures { λ r. let m = meaning (now (self .entry)) in ⌜ Cases r (m .level (reading m a) < m .level (reading m b)) (λ c. (m .level (reading m b) ≤ m .level (reading m a)) × Quotient m (reading m a) (reading m b) c) ⌝ };
+        ensures { λ r. let m = meaning (now (self .entry)) in ⌜ Divided m (reading m a) (reading m b) r ⌝ };
 }
 
 // Whether `a` is a code: only a code is its own sum with 0.

@@ -2,8 +2,7 @@
 
 ghost use Prim.Native.Nat.{_*_, _%_, _<_, _≤_};
 ghost use mathlib.Core.Path.{_≡_};
-ghost use Rattle.std.specs.Options.{Cases};
-ghost use Rattle.scale.specs.Meaning.{Quotient, base, reading, size};
+ghost use Rattle.scale.specs.Meaning.{Divided, base, reading, size};
 ghost use Rattle.scales.specs.Counting.{counting};
 use crate::digits::Digits;
 
@@ -61,7 +60,7 @@ fn inverse<D: Digits>(scale: &D, unit: u32) -> u32
 }
 
 pub fn quotient<D: Digits>(scale: &D, a: u32, b: u32) -> Option<u32>
-    ensures { λ r. let m = counting (D·Digits .counts (now (scale .entry))) in ⌜ Cases r (m .level (reading m a) < m .level (reading m b)) (λ c. (m .level (reading m b) ≤ m .level (reading m a)) × Quotient m (reading m a) (reading m b) c) ⌝ }
+    ensures { λ r. let m = counting (D·Digits .counts (now (scale .entry))) in ⌜ Divided m (reading m a) (reading m b) r ⌝ }
 {
     let a = scale.remainder(u64::from(a));
     let b = scale.remainder(u64::from(b));
