@@ -1,5 +1,7 @@
 // A book of ties over one scale: posting ties, drawing sheets of all solutions, and querying ties.
 
+#![tactic(auto)]
+
 mod book;
 pub mod closed;
 mod dividing;

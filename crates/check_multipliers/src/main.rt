@@ -1,6 +1,8 @@
 // check_multipliers FILE NUMBER ..
 // Whether the numbers, one multiplier for each tie of the file, show that its ties contradict each other.
 
+#![tactic(auto)]
+
 ghost use Rattle.std.specs.Str.Parse.{ParsesUnsigned};
 
 use anyhow::anyhow;

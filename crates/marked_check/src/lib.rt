@@ -1,5 +1,7 @@
 // The check of multipliers over the scale that a file's own mark names.
 
+#![tactic(auto)]
+
 ghost use Rattle.std.specs.Prelude.{◌≡◌, true, IfOk, Decides, MatchResult};
 ghost use Rattle.marked_check.specs.Marked.{MarkedStopped, scale_of};
 ghost use Rattle.multipliers.specs.Checked.{Checkable};

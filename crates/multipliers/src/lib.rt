@@ -1,5 +1,7 @@
 // The check of multipliers, which needs no solver.
 
+#![tactic(auto)]
+
 ghost use Rattle.std.specs.Prelude.{◌≡◌, ◌<◌, ◌≤◌, true, length, IfOk, Decides, MatchResult};
 ghost use Rattle.multipliers.specs.Checked.{Checkable, Stopped};
 ghost use Rattle.multipliers.specs.Refuting.{Refutes};

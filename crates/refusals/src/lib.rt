@@ -1,5 +1,7 @@
 // The sixteen ways to be stopped. Every fault of the library is one of these.
 
+#![tactic(auto)]
+
 ghost use Rattle.std.specs.Prelude.{◌≡◌};
 ghost use Rattle.refusals.specs.Numbers.{number as numbered};
 

@@ -1,5 +1,7 @@
 // Runs of calls on a real book, and the law that every run keeps.
 
+#![tactic(auto)]
+
 ghost use Rattle.book.specs.Opening.{OpenStopped};
 ghost use Rattle.replay.specs.Runs.{Lawful};
 ghost use Rattle.std.specs.Prelude.{MatchResult};

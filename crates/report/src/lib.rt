@@ -1,5 +1,7 @@
 // The report on a tie file: its ties are posted in order to an empty book until one is refused.
 
+#![tactic(auto)]
+
 ghost use Rattle.std.specs.Prelude.{◌≡◌, MatchResult};
 ghost use Rattle.report.specs.Reported.{Openable, ReportStopped, Reported, scale_of};
 ghost use Rattle.tie_file.specs.Bodies.{equations, file_shape};

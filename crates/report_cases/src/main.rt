@@ -1,6 +1,8 @@
 // report_cases < CASES
 // Prints the report on each tie file that the input gives: a line `file ` and the file's bytes in hex, two digits each.
 
+#![tactic(auto)]
+
 ghost use Rattle.std.specs.Prelude.{◌<◌};
 
 use anyhow::anyhow;

@@ -1,5 +1,7 @@
 // The arithmetic of one sort of wrapping counter.
 
+#![tactic(auto)]
+
 ghost use Rattle.std.specs.Prelude.{◌≡◌, Decides};
 ghost use Rattle.scale.specs.Meaning.{Code, Divided, Laws, Meaning, power, reading};
 

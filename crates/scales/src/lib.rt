@@ -1,5 +1,7 @@
 // Three scales: counting in base 2, counting in base 3, 5 or 7, and counting in base 2 under Gray codes.
 
+#![tactic(auto)]
+
 mod any;
 mod binary;
 mod counting;

@@ -1,6 +1,8 @@
 // Tie files: a table of contents, then the body of a layout and the bodies of ties.
 // A file is checked as a whole, and its bodies are read where they stand.
 
+#![tactic(auto)]
+
 ghost use Rattle.std.specs.Prelude.{◌≡◌, ◌+◌, MatchResult};
 ghost use Rattle.tie_file.specs.Reading.{Bad};
 ghost use Rattle.tie_file.specs.Table.{WellFormed, entries};

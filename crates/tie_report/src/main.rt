@@ -3,6 +3,8 @@
 // free, the number of the tie that was refused with that of its refusal, and how many digits of each counter's code are
 // settled.
 
+#![tactic(auto)]
+
 use anyhow::anyhow;
 use report::lines::Lines;
 use report::report;

@@ -1,5 +1,7 @@
 // Layouts of counters, ties between their start values, and the checks on both.
 
+#![tactic(auto)]
+
 pub mod fault;
 pub mod layout;
 mod terms;
