@@ -14,8 +14,8 @@ loop-counter-preserved c =
     let width : c.from-total.result ≡ get_or ws r 0 = c.from-total.ensures ∙ c.width.ensures in
     (ap₂ (λ a b. a + b) c.loop-counter.invariant.0 width ∙ sym more, omega (arith, c.width.type-inv, c.from-total.ensures))
 
-pub overflow-mul-result : goal.overflow-mul-result
-overflow-mul-result c =
+pub overflow_mul-result : goal.overflow_mul-result
+overflow_mul-result c =
     let sized = layout_sized c.args.layout.now in
     let few : c.from.result ≤ 8 = omega (arith, c.from.ensures, c.heads.ensures, sized.1) in
     let total : c.loop-counter.total ≤ 1020 = omega (arith, c.loop-counter.invariant.1, c.counters-counter-end.ensures, sized.3) in

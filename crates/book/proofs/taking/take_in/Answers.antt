@@ -21,8 +21,8 @@ note-standing-requires g c =
       inside = (omega (arith, c.requires.measures.divides.0), ap length c.deref.ensures.value ∙ c.requires.size ∙ ap (λ k. k + k * k) (sym is));
     }
 
-pub overflow-sub-table : goal.overflow-sub-table
-overflow-sub-table g c =
+pub overflow_sub-table : goal.overflow_sub-table
+overflow_sub-table g c =
     let m = g.S.Scale.meaning c.args.scale.now in
     let l = g.met.S.Scale.lawful c.args.scale.now in
     let level = level_is m l _ _ (c.requires.measures.codes _) c.level-level.ensures in

@@ -6,8 +6,8 @@ use Rattle.report.specs.Reported.{SettledAt}
 use Rattle.report.proofs.Own.{at_place, by_counter, each_more}
 use Rattle.report.proofs.settling.settled_digits.Goals as goal
 
-pub overflow-cast-head : goal.overflow-cast-head
-overflow-cast-head g c =
+pub overflow_cast-head : goal.overflow_cast-head
+overflow_cast-head g c =
     let s = shape c.args.opened.now.book.layout in
     let sized = layout_sized c.args.opened.now.book.layout in
     let at = at_place s c.from.result c.from-counters.result c.loop-i.i sized (c.from.ensures ∙ c.heads.ensures) (c.from-counters.ensures ∙ c.counters.ensures) c.loop-i-test.true in

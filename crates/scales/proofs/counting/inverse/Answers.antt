@@ -9,10 +9,10 @@ loop-exact-init g c =
     let laws = g.met.D.Digits.lawful c.args.scale.now in
     let length : c.from-length.result ≡ m.length = c.from-length.ensures ∙ ap (λ k. k.length) c.numbers.ensures in (
       omega arith,
-      omega (arith, c.digit-inverse-inverse.ensures.1),
-      subst (λ (e : ℕ). Inverse m.base (min 1 e) c.args.unit c.digit-inverse-inverse.result) (sym length)
-          (begun m.base m.length c.args.unit c.digit-inverse-inverse.result laws.length_least laws.base_least
-          c.digit-inverse-inverse.ensures.0),
+      omega (arith, c.digit_inverse-inverse.ensures.1),
+      subst (λ (e : ℕ). Inverse m.base (min 1 e) c.args.unit c.digit_inverse-inverse.result) (sym length)
+          (begun m.base m.length c.args.unit c.digit_inverse-inverse.result laws.length_least laws.base_least
+          c.digit_inverse-inverse.ensures.0),
     )
 
 pub loop-exact-preserved : goal.loop-exact-preserved

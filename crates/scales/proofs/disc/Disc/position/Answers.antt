@@ -11,8 +11,8 @@ returns c =
     let short : e ≤ 32 = omega (arith, c.args.self.now.positions.most) in
     let known : c.remainder.result ≡ code = read (2 ^ e) c.remainder.ensures c.from.ensures in
     let below = mod-lt c.args.code (pow_pos e) in
-    let is : c.position-of-gray.result ≡ ungray e code =
-    c.position-of-gray.ensures ∙ ap (ungray 32) known ∙ ungray_of_32 e code short below in
+    let is : c.position_of_gray.result ≡ ungray e code =
+    c.position_of_gray.ensures ∙ ap (ungray 32) known ∙ ungray_of_32 e code short below in
     record {
       at = is;
       within = position_read e c.args.code _ is ∙ sym is;

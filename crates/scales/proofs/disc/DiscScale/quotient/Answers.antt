@@ -19,7 +19,7 @@ returns-in-Some c =
     (position_read e c.args.a _ c.position.ensures.at) (position_read e c.args.b _ c.position-2.ensures.at)
     c.in-Some.ensures in (
       found.0,
-      subst (λ (x : ℕ). Quotient (disc s) (c.args.a % 2 ^ e) (c.args.b % 2 ^ e) x) (sym c.gray-code.ensures)
+      subst (λ (x : ℕ). Quotient (disc s) (c.args.a % 2 ^ e) (c.args.b % 2 ^ e) x) (sym c.gray_code.ensures)
           (moved_quotient gray (ungray e) m (gray_numbering 3 e) (c.args.a % 2 ^ e) (c.args.b % 2 ^ e) c.in-Some.c
           (mod-lt c.args.a (pow_pos e)) found.1),
     )

@@ -6,6 +6,6 @@ use Rattle.scales.proofs.prime.Prime.new.Goals as goal
 pub pow-size-requires : goal.pow-size-requires
 pow-size-requires c =
     let k = mark_of 2 c.args.base c.args.length in
-    let most = subst (λ (l : ℕ). c.args.length ≤ l) c.greatest-length.ensures c.if-length-greatest-length.false in
+    let most = subst (λ (l : ℕ). c.args.length ≤ l) c.greatest_length.ensures c.if-length-greatest_length.false in
     subst₂ (λ (b e : ℕ). b ^ e < 2 ^ 32) (sym c.from.ensures) (sym c.from-2.ensures)
     (lt_of_le_of_lt (fits k (omega (arith, c.if-length-eq0.false), most)).0.size_most (lit< tt))

@@ -5,8 +5,8 @@ use Rattle.scales.specs.Known.{prime_power}
 use Rattle.scales.specs.Zeros.{shed_some, shed_small}
 use Rattle.scales.proofs.prime.Prime.shed.Goals as goal
 
-pub nonzero-rem-unit : goal.nonzero-rem-unit
-nonzero-rem-unit c = subst (λ (n : ℕ). 0 < n) (sym c.requires.raised) (prime_power c.args.self.now c.args.digits)
+pub nonzero_rem-unit : goal.nonzero_rem-unit
+nonzero_rem-unit c = subst (λ (n : ℕ). 0 < n) (sym c.requires.raised) (prime_power c.args.self.now c.args.digits)
 
 divides : (c : goal.After-from) → c.args.parts.unit % c.args.power ≡ 0
 divides c = ap (λ (x : ℕ). x % c.args.power) (sym c.from-unit.ensures) ∙ c.if-unit-power-ne0.false
@@ -18,11 +18,11 @@ small c =
     subst (λ (p : ℕ). p * c.args.power < 2 ^ 32) (sym c.from.ensures)
     (shed_small c.args.parts.power c.args.power u (divides c) some c.requires.small)
 
-pub overflow-mul-result : goal.overflow-mul-result
-overflow-mul-result c = omega (arith, small c)
+pub overflow_mul-result : goal.overflow_mul-result
+overflow_mul-result c = omega (arith, small c)
 
-pub overflow-cast-result : goal.overflow-cast-result
-overflow-cast-result c = omega (arith, small c)
+pub overflow_cast-result : goal.overflow_cast-result
+overflow_cast-result c = omega (arith, small c)
 
 pub returns : goal.returns
 returns c =
