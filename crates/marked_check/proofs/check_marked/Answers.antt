@@ -4,14 +4,14 @@ use Rattle.marked_check.proofs.Naming.{answered, made_scale, numbers_of, stopped
 use Rattle.marked_check.proofs.check_marked.Goals as goal
 
 pub unreachable-requires : goal.unreachable-requires
-unreachable-requires c = c.in-default.ensures (layout_there c.args.file.now c.in-ok-verify.ensures.0)
+unreachable-requires c = c.in-default.ensures (layout_there c.args.file.now c.in_ok-verify.ensures.0)
 
 pub returns : goal.returns
 returns c =
     let f = c.args.file.now in
     let mark = c.in-Some.ensures.1.mark in
-    let made = c.in-ok-scale.ensures in
+    let made = c.in_ok-scale.ensures in
     let is = made_scale f _ _ mark made.1 in
-    let done = c.in-ok-check.ensures in
-    let says = answered f c.args.multipliers.now _ c.in-ok-check.field-0 is done.answer done.trusted in
+    let done = c.in_ok-check.ensures in
+    let says = answered f c.args.multipliers.now _ c.in_ok-check.field-0 is done.answer done.trusted in
     record { answer = (numbers_of f _ mark made.0, says.0.0, says.0.1); trusted = says.1 }

@@ -18,14 +18,14 @@ none =
 pub loop-call-preserved : goal.loop-call-preserved
 loop-call-preserved g c =
     let meaning = g.S.Scale.meaning in
-    let start = c.in-ok-book.book.book in
+    let start = c.in_ok-book.book.book in
     let before = c.loop-call.book.book in
     let new = c.perform.new.book.book in
     let inv = c.loop-call.invariant in
-    let done = c.in-ok-perform.ensures in
+    let done = c.in_ok-perform.ensures in
     let calls = c.args.calls.now in
     let i = c.loop-call.call-index in
-    let a = c.in-ok-perform.field-0 in
+    let a = c.in_ok-perform.field-0 in
     let step : Step (meaning start.scale) (shape start.layout) (place_of before) (get_or calls i none) a (place_of new) =
     subst₂ (λ (m : Meaning) (s : Shape). Step m s (place_of before) (get_or calls i none) a (place_of new))
     (ap meaning inv.1) (ap shape inv.2) done.performed.2
@@ -46,8 +46,8 @@ loop-call-preserved g c =
 pub returns : goal.returns
 returns g c =
     let meaning = g.S.Scale.meaning in
-    let opened = c.in-ok-book.ensures in
-    let start = c.in-ok-book.book.book in
+    let opened = c.in_ok-book.ensures in
+    let start = c.in_ok-book.book.book in
     let calls = c.args.calls.now in
     let inv = c.loop-call.invariant in
     let end : c.loop-call.call-index ≡ length calls = omega (arith, c.loop-call-test.false) in

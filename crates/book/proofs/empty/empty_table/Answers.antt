@@ -9,11 +9,11 @@ use Rattle.book.proofs.empty.empty_table.Goals as goal
 pub set-units-requires : goal.set-units-requires
 set-units-requires g c =
     let n = c.places-n.result in
-    let zeros : vec_items c.in-ok-rows.rows ≡ replicate (n + n * n) 0 = c.in-ok-rows.ensures.items-if-clones-equal (λ y h. h) in
+    let zeros : vec_items c.in_ok-rows.rows ≡ replicate (n + n * n) 0 = c.in_ok-rows.ensures.items-if-clones-equal (λ y h. h) in
     let read = c.deref-mut.ensures.value ∙ zeros in
     record {
       few = c.places-n.ensures.1;
-      size = c.deref-mut.ensures.len ∙ c.in-ok-rows.ensures.len;
+      size = c.deref-mut.ensures.len ∙ c.in_ok-rows.ensures.len;
       zeros = λ i. ap (λ xs. get_or xs i 0) read ∙ zeros_read (n + n * n) i;
     }
 
@@ -37,11 +37,11 @@ returns g c =
     let new = c.set-units.new.rows in
     let f = c.all-digits.result in
     let long : length new ≡ n + n * n =
-    c.set-units.auto.rows ∙ c.deref-mut.ensures.len ∙ c.in-ok-rows.ensures.len
+    c.set-units.auto.rows ∙ c.deref-mut.ensures.len ∙ c.in_ok-rows.ensures.len
     in (
-      c.in-ok-with-capacity.ensures.items,
+      c.in_ok-with-capacity.ensures.items,
       subst (λ (xs : List ℕ). Fresh m s xs f)
-          (sym (with_items_is c.in-ok-rows.rows new (c.set-units.auto.rows ∙ c.deref-mut.ensures.len)))
+          (sym (with_items_is c.in_ok-rows.rows new (c.set-units.auto.rows ∙ c.deref-mut.ensures.len)))
           (fresh m s n f new c.places-n.ensures.0 long c.all-digits.ensures c.set-units.ensures),
-      c.in-ok-with-capacity.ensures.capacity,
+      c.in_ok-with-capacity.ensures.capacity,
     )

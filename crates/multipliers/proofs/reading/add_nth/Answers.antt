@@ -17,7 +17,7 @@ there f i room formed within long none = none (tie_there f formed i within room 
 pub unreachable-requires : goal.unreachable-requires
 unreachable-requires g c =
     there c.args.file.now c.args.i (replicate 32 (record { head = 0; counter = 0; factor = 0 })) c.requires.formed
-    c.requires.within refl c.in-default.ensures.0
+    c.requires.within refl c.in_default.ensures.0
 
 pub returns-in-Err : goal.returns-in-Err
 returns-in-Err g c =
@@ -34,8 +34,8 @@ returns g c =
     let nth = equations_at c.args.file.now c.args.i _ c.requires.within in
     let e = c.in-Some-tie.ensures.1 ∙ c.in-Some.ensures.equation ∙ sym nth in
     let old = c.args.totals.now in
-    let new = c.add-tie.new.totals in (
-      subst (Sound m s) e c.in-default-check.ensures,
-      c.add-tie.ensures.codes,
-      subst (λ (x : Equation). Added m s x c.args.multiplier old new) e c.add-tie.ensures.added,
+    let new = c.add_tie.new.totals in (
+      subst (Sound m s) e c.in_default-check.ensures,
+      c.add_tie.ensures.codes,
+      subst (λ (x : Equation). Added m s x c.args.multiplier old new) e c.add_tie.ensures.added,
     )

@@ -14,16 +14,16 @@ returns g c =
     let s = shape c.args.layout.now in
     let e = equation c.args.tie.now in
     let old = c.args.totals.now in
-    let new = c.add-terms.new.totals in
-    let k : c.saturating-sub.result ≡ digits m - depth s e =
-    c.saturating-sub.ensures ∙ ap₂ ◌-◌ (ap (λ r. r.length) c.mark.ensures) c.width-depth.ensures
+    let new = c.add_terms.new.totals in
+    let k : c.saturating_sub.result ≡ digits m - depth s e =
+    c.saturating_sub.ensures ∙ ap₂ ◌-◌ (ap (λ r. r.length) c.mark.ensures) c.width-depth.ensures
     in
-    let by = weight_is m l s e c.args.multiplier _ _ _ k c.step-power-raise.ensures c.product-by.ensures in
+    let by = weight_is m l s e c.args.multiplier _ _ _ k c.step_power-raise.ensures c.product-by.ensures in
     let right_code = (c.requires.sound.codes (length e.terms) (omega arith)).1 refl in
     let right =
     right_is m l s e c.args.multiplier _ _ _ _ by c.requires.codes.2 right_code c.product.ensures c.sum-totals.ensures
     in
     let shares =
-    subst (λ (b : ℕ). Shares m s (λ h k. m.product b (factor_at m e.terms h k)) old.counters new) by c.add-terms.ensures.added
+    subst (λ (b : ℕ). Shares m s (λ h k. m.product b (factor_at m e.terms h k)) old.counters new) by c.add_terms.ensures.added
     in
-    record { codes = (c.add-terms.auto.totals ∙ c.requires.codes.0, c.add-terms.ensures.codes, right.0); added = (shares, right.1) }
+    record { codes = (c.add_terms.auto.totals ∙ c.requires.codes.0, c.add_terms.ensures.codes, right.0); added = (shares, right.1) }

@@ -10,8 +10,8 @@ returns-in-Layout c =
     let f = c.args.file.now in
     let found = c.in-Some.ensures in
     let is = subst (IsEntry f c.args.i) c.in-Layout.is found.1 in
-    layout_fits_lem f c.requires.1.0 c.args.i c.requires.1.1 c.in-Layout.body c.layout-fits.result found.0 is
-    c.layout-fits.ensures
+    layout_fits_lem f c.requires.1.0 c.args.i c.requires.1.1 c.in-Layout.body c.layout_fits.result found.0 is
+    c.layout_fits.ensures
 
 pub returns-in-Tie : goal.returns-in-Tie
 returns-in-Tie c =
@@ -19,10 +19,10 @@ returns-in-Tie c =
     let found = c.in-Some.ensures in
     let is = subst (IsEntry f c.args.i) c.in-Tie.is found.1 in
     let P : Bool → Type 0 = λ r. MatchBool r (BodyFits f c.args.i) (BodyFits f c.args.i → ⊥) in
-    subst P (sym c.is-some.ensures)
-    (tie_fits f c.requires.1.0 c.args.i c.in-Tie.body c.count-terms.result found.0 is
-    c.count-terms.ensures)
+    subst P (sym c.is_some.ensures)
+    (tie_fits f c.requires.1.0 c.args.i c.in-Tie.body c.count_terms.result found.0 is
+    c.count_terms.ensures)
 
-pub returns-in-default : goal.returns-in-default
-returns-in-default c =
-    absurd (c.in-default.ensures (entry_there c.args.file.now c.requires.0 c.requires.1.0 c.args.i c.requires.1.1))
+pub returns-in_default : goal.returns-in_default
+returns-in_default c =
+    absurd (c.in_default.ensures (entry_there c.args.file.now c.requires.0 c.requires.1.0 c.args.i c.requires.1.1))

@@ -21,8 +21,8 @@ line_at f t at i (Some l) s e n (whole, kind, start, extent) =
 
 pub returns : goal.returns
 returns c =
-    let found = c.in-ok-get.ensures.lookup.0 in
-    line_at c.args.file.now c.in-ok-get.field-0.now c.in-ok-at.at c.args.i
-    c.first-line.result
-    (omega (arith, c.in-ok-at.ensures, c.in-ok-checked-mul.ensures))
-    found.2 found.3 c.first-line.ensures
+    let found = c.in_ok-get.ensures.lookup.0 in
+    line_at c.args.file.now c.in_ok-get.field-0.now c.in_ok-at.at c.args.i
+    c.first_line.result
+    (omega (arith, c.in_ok-at.ensures, c.in_ok-checked_mul.ensures))
+    found.2 found.3 c.first_line.ensures

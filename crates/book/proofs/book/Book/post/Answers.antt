@@ -20,7 +20,7 @@ returns-then-len-ge64 g c =
     let many = ledger_length c.args.self.now.table in
     record {
       ready = c.requires;
-      answer = (c.if-multipliers-lt64.false, c.in-ok-check.ensures, omega (arith, c.len.ensures, c.if-len-ge64.true));
+      answer = (c.if-multipliers-lt64.false, c.in_ok-check.ensures, omega (arith, c.len.ensures, c.if-len-ge64.true));
       book = refl;
       list = refl;
     }
@@ -34,7 +34,7 @@ measure-measured-requires g c =
     let stands = stands_codes m l s b.table c.requires.0 c.requires.1 in
     let P : List ℕ → Type 0 = λ xs. ((i : ℕ) → Code m (get_or xs i 0)) × (length xs ≡ places s + places s * places s) in
     let here = subst P (sym c.deref.ensures.value) stands in
-    record { sound = c.in-ok-check.ensures; codes = here.0; size = here.1 }
+    record { sound = c.in_ok-check.ensures; codes = here.0; size = here.1 }
 
 pub bounds-measured-measured : goal.bounds-measured-measured
 bounds-measured-measured g c =
@@ -52,7 +52,7 @@ quotient-of-requires g c =
     let meas = c.measure-measured.ensures in
     let rest : Code m c.measure-measured.result.rest =
     subst (Code m) (sym (meas.missing ∙ ap (λ xs. rest m s e xs) c.deref.ensures.value))
-    (rest_code m l s e c.in-ok-check.ensures (vec_items b.table.rows) codes)
+    (rest_code m l s e c.in_ok-check.ensures (vec_items b.table.rows) codes)
     in
     (rest, meas.codes c.measure-measured.result.pivot)
 
@@ -64,7 +64,7 @@ take-in-requires g c =
     let s = shape b.layout in
     let e = equation c.args.tie.now in
     let d = c.measure-measured.result in
-    let sound = c.in-ok-check.ensures in
+    let sound = c.in_ok-check.ensures in
     let stands = stands_codes m l s b.table c.requires.0 c.requires.1 in
     let meas : Measures m s e (vec_items b.table.rows) d =
     subst (λ (xs : List ℕ). Measures m s e xs d) c.deref.ensures.value c.measure-measured.ensures
@@ -98,7 +98,7 @@ returns-in-Some g c =
       );
       answer = (
         c.if-multipliers-lt64.false,
-        accepted m l s b.table new e c.take-in.result c.requires.0 c.requires.1 c.in-ok-check.ensures room took,
+        accepted m l s b.table new e c.take-in.result c.requires.0 c.requires.1 c.in_ok-check.ensures room took,
       );
       book = (refl, refl, taken_ledger m l s b.table c.requires.0 c.requires.1 e new c.take-in.result took);
       list = refl;
@@ -112,7 +112,7 @@ returns-in-None g c =
     let s = shape b.layout in
     let e = equation c.args.tie.now in
     let d = c.measure-measured.result in
-    let sound = c.in-ok-check.ensures in
+    let sound = c.in_ok-check.ensures in
     let meas : Measures m s e (vec_items b.table.rows) d =
     subst (λ (xs : List ℕ). Measures m s e xs d) c.deref.ensures.value c.measure-measured.ensures
     in

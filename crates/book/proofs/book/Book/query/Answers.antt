@@ -29,7 +29,7 @@ total-at-total-requires g c =
     let b = c.args.self.now in
     let m = g.S.Scale.meaning b.scale in
     let l = g.met.S.Scale.lawful b.scale in
-    let sound = c.in-ok-check.ensures in
+    let sound = c.in_ok-check.ensures in
     let rows = listed m l (shape b.layout) b.table _ c.deref-rows.ensures.value c.requires.0 c.requires.1 in
     record {
       exist = sound.exist;
@@ -44,7 +44,7 @@ settled-digits-requires g c =
     let m = g.S.Scale.meaning b.scale in
     let l = g.met.S.Scale.lawful b.scale in
     let rows = listed m l (shape b.layout) b.table _ c.deref-rows.ensures.value c.requires.0 c.requires.1 in
-    record { sound = c.in-ok-check.ensures; codes = rows.0; size = rows.1 }
+    record { sound = c.in_ok-check.ensures; codes = rows.0; size = rows.1 }
 
 pub returns : goal.returns
 returns g c =
@@ -53,7 +53,7 @@ returns g c =
     let l = g.met.S.Scale.lawful b.scale in
     let s = shape b.layout in
     let e = equation c.args.tie.now in
-    let sound = c.in-ok-check.ensures in
+    let sound = c.in_ok-check.ensures in
     let xs = vec_items b.table.rows in
     let total_is : c.total-at-total.result ≡ total m e.terms (point_of s xs) =
     c.total-at-total.ensures.1 ∙ ap (λ ys. total m e.terms (point_of s ys)) c.deref-rows.ensures.value
