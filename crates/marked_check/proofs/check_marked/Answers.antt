@@ -4,7 +4,7 @@ use Rattle.marked_check.proofs.Naming.{answered, made_scale, numbers_of, stopped
 use Rattle.marked_check.proofs.check_marked.Goals as goal
 
 pub unreachable-requires : goal.unreachable-requires
-unreachable-requires c = c.in-default.ensures (layout_there c.args.file.now c.in_ok-verify.ensures.0)
+unreachable-requires c = c.in_default.ensures (layout_there c.args.file.now c.in_ok-verify.ensures.0)
 
 pub returns : goal.returns
 returns c =
