@@ -1,6 +1,7 @@
 use crate::files::*;
 use multipliers::check as check_multipliers;
 use scales::Prime;
+use std::test::Fail;
 
 #[test]
 fn answers(rt: HostRuntime) -> Result<(), Fail> {

@@ -15,7 +15,7 @@ loop-i-preserved g c =
     let n = c.loop-i.i in
     let p = c.loop-i.pivot in
     let P : List ℕ → ℕ → Type 0 = λ qs k. Scanned m ds qs (n + 1) k in
-    elim c.match-quotient-of.branch [
+    elim c.match-quotient_of.branch [
       | goal.in-Some w ↦
           subst₂ P (sym w.quotients-is) (sym w.pivot-is)
           (scanned_more m ds c.loop-i.quotients n p w.in-Some.quotient (omega arith) w.in-Some.ensures.1 c.loop-i.invariant)

@@ -12,7 +12,7 @@ loop-counter-preserved c =
     let inside : r < length ws = omega (arith, c.loop-counter-test.true, c.counters-counter-end.ensures) in
     let more = sum_by_more (λ x. x) ws r 0 inside in
     let width : c.from-total.result ≡ get_or ws r 0 = c.from-total.ensures ∙ c.width.ensures in
-    (ap₂ (λ a b. a + b) c.loop-counter.invariant.0 width ∙ sym more, omega (arith, c.width.type-inv, c.from-total.ensures))
+    (ap₂ (λ a b. a + b) c.loop-counter.invariant.0 width ∙ sym more, omega (arith, c.width.type_inv, c.from-total.ensures))
 
 pub overflow_mul-result : goal.overflow_mul-result
 overflow_mul-result c =

@@ -6,14 +6,14 @@ use Rattle.multipliers.proofs.Concluding.{zeros_read}
 use Rattle.book.specs.Standing.{Fresh, Units}
 use Rattle.book.proofs.empty.empty_table.Goals as goal
 
-pub set-units-requires : goal.set-units-requires
-set-units-requires g c =
+pub set_units-requires : goal.set_units-requires
+set_units-requires g c =
     let n = c.places-n.result in
-    let zeros : vec_items c.in_ok-rows.rows ≡ replicate (n + n * n) 0 = c.in_ok-rows.ensures.items-if-clones-equal (λ y h. h) in
-    let read = c.deref-mut.ensures.value ∙ zeros in
+    let zeros : vec_items c.in_ok-rows.rows ≡ replicate (n + n * n) 0 = c.in_ok-rows.ensures.items_if_clones_equal (λ y h. h) in
+    let read = c.deref_mut.ensures.value ∙ zeros in
     record {
       few = c.places-n.ensures.1;
-      size = c.deref-mut.ensures.len ∙ c.in_ok-rows.ensures.len;
+      size = c.deref_mut.ensures.len ∙ c.in_ok-rows.ensures.len;
       zeros = λ i. ap (λ xs. get_or xs i 0) read ∙ zeros_read (n + n * n) i;
     }
 
@@ -34,14 +34,14 @@ returns g c =
     let m = g.S.Scale.meaning c.args.scale.now in
     let s = shape c.args.layout.now in
     let n = c.places-n.result in
-    let new = c.set-units.new.rows in
-    let f = c.all-digits.result in
+    let new = c.set_units.new.rows in
+    let f = c.all_digits.result in
     let long : length new ≡ n + n * n =
-    c.set-units.auto.rows ∙ c.deref-mut.ensures.len ∙ c.in_ok-rows.ensures.len
+    c.set_units.auto.rows ∙ c.deref_mut.ensures.len ∙ c.in_ok-rows.ensures.len
     in (
-      c.in_ok-with-capacity.ensures.items,
+      c.in_ok-with_capacity.ensures.items,
       subst (λ (xs : List ℕ). Fresh m s xs f)
-          (sym (with_items_is c.in_ok-rows.rows new (c.set-units.auto.rows ∙ c.deref-mut.ensures.len)))
-          (fresh m s n f new c.places-n.ensures.0 long c.all-digits.ensures c.set-units.ensures),
-      c.in_ok-with-capacity.ensures.capacity,
+          (sym (with_items_is c.in_ok-rows.rows new (c.set_units.auto.rows ∙ c.deref_mut.ensures.len)))
+          (fresh m s n f new c.places-n.ensures.0 long c.all_digits.ensures c.set_units.ensures),
+      c.in_ok-with_capacity.ensures.capacity,
     )

@@ -73,4 +73,4 @@ loop-i-preserved g c =
     let k = c.loop-i.i in
     let inside = row_inside n k c.loop-i-test.true in
     units_more m n k c.one.result c.loop-i.rows c.loop-i-test.true (omega (arith, c.loop-i.auto.rows, c.requires.size))
-    c.one.ensures (subst (Code m) (sym c.one.ensures) l.one-code) c.loop-i.invariant
+    c.one.ensures (subst (Code m) (sym c.one.ensures) l.one_code) c.loop-i.invariant

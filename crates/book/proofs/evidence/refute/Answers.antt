@@ -23,12 +23,12 @@ pub bounds-measured-measured : goal.bounds-measured-measured
 bounds-measured-measured g c =
     omega (arith, c.requires.measures.divides.0, places_most (shape c.args.layout.now) (layout_sized c.args.layout.now))
 
-pub add-terms-requires : goal.add-terms-requires
-add-terms-requires g c =
+pub add_terms-requires : goal.add_terms-requires
+add_terms-requires g c =
     let m = g.S.Scale.meaning c.args.scale.now in
     let l = g.met.S.Scale.lawful c.args.scale.now in
-    let lead_code : Code m c.step-power-lead.result = subst (Code m) (sym c.step-power-lead.ensures) (power_code m l _) in
-    let raise_code : Code m c.raise-to.result = subst (Code m) (sym c.raise-to.ensures) (power_code m l _) in
+    let lead_code : Code m c.step_power-lead.result = subst (Code m) (sym c.step_power-lead.ensures) (power_code m l _) in
+    let raise_code : Code m c.raise_to.result = subst (Code m) (sym c.raise_to.ensures) (power_code m l _) in
     record {
       by_code = (product_is m l _ _ _ lead_code raise_code c.product-by.ensures).0;
       exist = c.requires.sound.exist;
@@ -55,31 +55,31 @@ loop-k-init g c =
     let xs = vec_items c.args.table.now.rows in
     let d = c.args.measured.now in
     let ys = c.args.multipliers.now in
-    let lead = c.step-power-lead.result in
+    let lead = c.step_power-lead.result in
     let count : c.len-count.result ≡ length ks = c.len-count.ensures ∙ c.args.table.now.standing.ok.0 in
     let room : c.len-count.result < length ys = omega (arith, c.len-count.ensures, c.requires.room) in
     let v = m.level (get_or d.products d.pivot 0) in
     let level : c.level-level.result ≡ v = level_is m l _ _ (c.requires.measures.codes d.pivot) c.level-level.ensures in
     let lead_is : lead ≡ power m (digits m - v) =
-    c.step-power-lead.ensures ∙ ap (power m) (ap₂ (λ a b. a - b) (ap (λ k. k.length) c.mark.ensures) level)
+    c.step_power-lead.ensures ∙ ap (power m) (ap₂ (λ a b. a - b) (ap (λ k. k.length) c.mark.ensures) level)
     in
     let set_there : get_or (set ys c.len-count.result lead) c.len-count.result 0 ≡ lead =
     get_or-set_same ys c.len-count.result lead 0 room
     in
     let lead_code : Code m lead = subst (Code m) (sym lead_is) (power_code m l _) in
-    let raise_code : Code m c.raise-to.result = subst (Code m) (sym c.raise-to.ensures) (power_code m l _) in
-    let by = (product_is m l lead c.raise-to.result c.product-by.result lead_code raise_code c.product-by.ensures).1 in
-    let begun : Refuting m l s ks e (length ks) (set ys c.len-count.result lead) c.add-terms.new.row =
+    let raise_code : Code m c.raise_to.result = subst (Code m) (sym c.raise_to.ensures) (power_code m l _) in
+    let by = (product_is m l lead c.raise_to.result c.product-by.result lead_code raise_code c.product-by.ensures).1 in
+    let begun : Refuting m l s ks e (length ks) (set ys c.len-count.result lead) c.add_terms.new.row =
     start m l s ks e xs c.args.table.now.free d.pivot v c.product-by.result (replicate 32 0)
-    (set ys c.len-count.result lead) c.add-terms.new.row c.requires.stands c.requires.sound
+    (set ys c.len-count.result lead) c.add_terms.new.row c.requires.stands c.requires.sound
     (ap m.level (sym (c.requires.measures.products d.pivot c.requires.measures.divides.0)))
     (λ i h. least m l s e xs d c.requires.measures i h)
     (ap (λ i. get_or (set ys c.len-count.result lead) i 0) (sym count) ∙ set_there ∙ lead_is)
-    (by ∙ ap₂ m.product lead_is c.raise-to.ensures)
-    (zeros_read 32) c.add-terms.ensures.codes c.add-terms.ensures.added
+    (by ∙ ap₂ m.product lead_is c.raise_to.ensures)
+    (zeros_read 32) c.add_terms.ensures.codes c.add_terms.ensures.added
     in (
-      subst (λ (n : ℕ). Refuting m l s ks e n (set ys c.len-count.result lead) c.add-terms.new.row) (sym count) begun,
-      c.add-terms.auto.row,
+      subst (λ (n : ℕ). Refuting m l s ks e n (set ys c.len-count.result lead) c.add_terms.new.row) (sym count) begun,
+      c.add_terms.auto.row,
       set_there,
       λ i h. refl,
     )
@@ -126,7 +126,7 @@ loop-k-preserved g c =
     let ys = c.loop-k.multipliers in
     let count : c.len-count.result ≡ length ks = c.len-count.ensures ∙ c.args.table.now.standing.ok.0 in
     let below : k - 1 < length ks = omega (arith, c.loop-k-test.true, c.loop-k.auto.k) in
-    let long = c.loop-k.auto.multipliers ∙ length-set c.args.multipliers.now c.len-count.result c.step-power-lead.result in
+    let long = c.loop-k.auto.multipliers ∙ length-set c.args.multipliers.now c.len-count.result c.step_power-lead.result in
     let room : k - 1 < length ys = omega (arith, c.requires.room, c.len-count.ensures) in
     let at : c.index.result.now ≡ nth_standing ks (k - 1) = read_is ks (k - 1) c.index.result.now below c.index.ensures in
     let so_far : Refuting m l s ks e (suc (k - 1)) ys c.loop-k.row =
@@ -164,8 +164,8 @@ returns g c =
     let none : c.loop-k.k ≡ 0 = omega (arith, c.loop-k-test.false) in
     let ended = subst (λ (n : ℕ). Refuting m l s ks e n ys c.loop-k.row) none c.loop-k.invariant.0 in
     let level : c.level-level.result ≡ v = level_is m l _ _ (c.requires.measures.codes d.pivot) c.level-level.ensures in
-    let lead_is : c.step-power-lead.result ≡ power m (digits m - v) =
-    c.step-power-lead.ensures ∙ ap (power m) (ap₂ (λ a b. a - b) (ap (λ k. k.length) c.mark.ensures) level)
+    let lead_is : c.step_power-lead.result ≡ power m (digits m - v) =
+    c.step_power-lead.ensures ∙ ap (power m) (ap₂ (λ a b. a - b) (ap (λ k. k.length) c.mark.ensures) level)
     in
     let sounds = All-push (Sound m s) (ledger table) e (stands_sound m l s table c.requires.within c.requires.stands) c.requires.sound in
     let solves = stands_solved m l s table c.requires.within c.requires.stands in
@@ -176,5 +176,5 @@ returns g c =
           (ap (λ i. get_or ys i 0) (sym count) ∙ c.loop-k.invariant.2 ∙ lead_is) short most,
       λ i h.
           c.loop-k.invariant.3 i (omega arith)
-          ∙ get_or-set_other c.args.multipliers.now c.len-count.result i c.step-power-lead.result 0 (λ f. omega arith),
+          ∙ get_or-set_other c.args.multipliers.now c.len-count.result i c.step_power-lead.result 0 (λ f. omega arith),
     )

@@ -23,14 +23,14 @@ returns g c =
     in
     let known : Quotient m c.dot-product.result t.divisor q = c.in-Some.ensures.1 in
     let multiplier = negative_is m l q c.negative-multiplier.result known.0 c.negative-multiplier.ensures in
-    let raise_code : Code m c.raise-to.result = subst (Code m) (sym c.raise-to.ensures) (power_code m l _) in
-    let by = product_is m l c.negative-multiplier.result c.raise-to.result c.product-by.result multiplier.0 raise_code c.product-by.ensures in
+    let raise_code : Code m c.raise_to.result = subst (Code m) (sym c.raise_to.ensures) (power_code m l _) in
+    let by = product_is m l c.negative-multiplier.result c.raise_to.result c.product-by.result multiplier.0 raise_code c.product-by.ensures in
     record {
       quotient = q;
       divides = (known.0, known.1 ∙ product_is');
       is = multiplier.1;
-      codes = c.add-terms.ensures.codes;
+      codes = c.add_terms.ensures.codes;
       added =
-          subst (λ (b : ℕ). Shares m s (λ h k. m.product b (factor_at m (equation_of t).terms h k)) old c.add-terms.new.row)
-          (by.1 ∙ ap (m.product c.negative-multiplier.result) c.raise-to.ensures) c.add-terms.ensures.added;
+          subst (λ (b : ℕ). Shares m s (λ h k. m.product b (factor_at m (equation_of t).terms h k)) old c.add_terms.new.row)
+          (by.1 ∙ ap (m.product c.negative-multiplier.result) c.raise_to.ensures) c.add_terms.ensures.added;
     }

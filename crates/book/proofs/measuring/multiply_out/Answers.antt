@@ -8,8 +8,8 @@ use Rattle.book.proofs.Filling.{holds_more, product_is}
 use Rattle.book.proofs.Spots.{row_inside}
 use Rattle.book.proofs.measuring.multiply_out.Goals as goal
 
-pub total-at-requires : goal.total-at-requires
-total-at-requires g c =
+pub total_at-requires : goal.total_at-requires
+total_at-requires g c =
     let n = c.places-n.result in
     let s = shape c.args.layout.now in
     let is : n ≡ places s = c.places-n.ensures.0 in
@@ -35,13 +35,13 @@ loop-i-preserved g c =
     let raise = c.args.raise in
     let inside : i < length cur = omega (arith, c.places-n.ensures.1, c.requires.inside.1) in
     let done =
-    product_is m l raise c.total-at.result c.product.result c.requires.codes.2 c.total-at.ensures.0 c.product.ensures
+    product_is m l raise c.total_at.result c.product.result c.requires.codes.2 c.total_at.ensures.0 c.product.ensures
     in
     let same : total m ts (row_at s rows (n + i * n)) ≡ total m ts (generator_of s rows i) =
     ap (λ k. total m ts (row_at s rows (k + i * k))) c.places-n.ensures.0
     in
     let is : c.product.result ≡ m.product raise (total m ts (generator_of s rows i)) =
-    done.1 ∙ ap (m.product raise) (c.total-at.ensures.1 ∙ same)
+    done.1 ∙ ap (m.product raise) (c.total_at.ensures.1 ∙ same)
     in (
       codes_set m cur i c.product.result inside c.loop-i.invariant.0 done.0,
       holds_more i (λ k. m.product raise (total m ts (generator_of s rows k))) cur c.product.result inside is c.loop-i.invariant.1,

@@ -9,8 +9,8 @@ use Rattle.book.proofs.Queries.{least_more, least_none}
 use Rattle.book.proofs.Spots.{row_inside}
 use Rattle.book.proofs.settling.settled_digits.Goals as goal
 
-pub total-at-requires : goal.total-at-requires
-total-at-requires g c =
+pub total_at-requires : goal.total_at-requires
+total_at-requires g c =
     let n = c.places-n.result in
     let s = shape c.args.layout.now in
     let is : n ≡ places s = c.places-n.ensures.0 in
@@ -40,8 +40,8 @@ loop-i-preserved g c =
     let rows = c.args.rows.now in
     let i = c.loop-i.i in
     let level : c.level-level.result ≡ m.level (total m e.terms (generator_of s rows i)) =
-    level_is m l c.total-at.result c.level-level.result c.total-at.ensures.0 c.level-level.ensures
-    ∙ ap m.level c.total-at.ensures.1
+    level_is m l c.total_at.result c.level-level.result c.total_at.ensures.0 c.level-level.ensures
+    ∙ ap m.level c.total_at.ensures.1
     ∙ ap (λ k. m.level (total m e.terms (row_at s rows (k + i * k)))) c.places-n.ensures.0
     in
     least_more m s e rows i c.loop-i.settled c.min-settled.result

@@ -54,18 +54,18 @@ returns g c =
     let fixed = c.mark.result.length - c.level-level.result in
     let turned : Turned m (places s) d.pivot d.quotients c.args.shift fixed xs new =
     subst₂ (λ (n : ℕ) (ys : List ℕ). Turned m n d.pivot d.quotients c.args.shift fixed ys new) is
-    c.deref-mut.ensures.value c.turn.ensures.turned
+    c.deref_mut.ensures.value c.turn.ensures.turned
     in
     let long : length new ≡ places s + places s * places s =
-    c.turn.auto.rows ∙ ap length c.deref-mut.ensures.value ∙ c.requires.size
+    c.turn.auto.rows ∙ ap length c.deref_mut.ensures.value ∙ c.requires.size
     in
     record {
       last = k;
       equation = noted.equation;
-      standing = c.push-reserved.ensures.items;
+      standing = c.push_reserved.ensures.items;
       stepped = subst (λ (ys : List ℕ). Stepped m s k xs ys old.free (old.free - c.from.result))
-          (sym (with_items_is old.rows new (c.turn.auto.rows ∙ c.deref-mut.ensures.len)))
+          (sym (with_items_is old.rows new (c.turn.auto.rows ∙ c.deref_mut.ensures.len)))
           (stepped_by m l s e k d c.args.shift xs new old.free (old.free - c.from.result) fixed c.requires.sound c.requires.codes c.requires.measures c.requires.quotient noted long c.turn.ensures.codes turned fixed_is fell);
       fell = fell;
-      room = c.push-reserved.ensures.capacity;
+      room = c.push_reserved.ensures.capacity;
     }

@@ -8,8 +8,8 @@ use Rattle.book.proofs.turning.spread.Goals as goal
 pub loop-i-init : goal.loop-i-init
 loop-i-init g c = (c.requires.codes.0, spread_none (g.S.Scale.meaning c.args.scale.now) c.args.n c.args.pivot c.args.factors.now c.args.rows.now)
 
-pub add-multiple-requires : goal.add-multiple-requires
-add-multiple-requires g c =
+pub add_multiple-requires : goal.add_multiple-requires
+add_multiple-requires g c =
     let n = c.args.n in
     let i = c.loop-i.i in
     let p = c.args.pivot in
@@ -31,9 +31,9 @@ loop-i-preserved g c =
     elim c.if-i-pivot.branch [
       | goal.then-i-pivot w ↦
           subst P (sym w.rows-is) (
-            w.add-multiple.ensures.codes,
-            spread_more m n p qs i (get_or qs i 0) c.args.rows.now c.loop-i.rows w.add-multiple.new.rows
-                c.loop-i-test.true c.requires.inside.0 w.if-i-pivot.true refl w.add-multiple.ensures.added c.loop-i.invariant.1,
+            w.add_multiple.ensures.codes,
+            spread_more m n p qs i (get_or qs i 0) c.args.rows.now c.loop-i.rows w.add_multiple.new.rows
+                c.loop-i-test.true c.requires.inside.0 w.if-i-pivot.true refl w.add_multiple.ensures.added c.loop-i.invariant.1,
           )
       | goal.else-i-pivot w ↦
           subst P (sym w.rows-is) (

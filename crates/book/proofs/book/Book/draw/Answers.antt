@@ -32,10 +32,10 @@ returns g c =
     let old = c.args.sheet.now in
     let stands = stands_codes m l s b.table c.requires.0 c.requires.1 in
     let n = c.len-size.result in
-    let copied : c.copy-from-slice.new.self ≡ rows = c.copy-from-slice.ensures.after ∙ c.deref.ensures.value in
+    let copied : c.copy_from_slice.new.self ≡ rows = c.copy_from_slice.ensures.after ∙ c.deref.ensures.value in
     let is : n ≡ length rows = c.len-size.ensures ∙ b.table.rows.ok.0 in
     let size : length rows ≡ sheet_size s = stands.1 ∙ rows_size (places s) in
-    let new : List ℕ = c.copy-from-slice.new.self ++ drop n old in
+    let new : List ℕ = c.copy_from_slice.new.self ++ drop n old in
     let read : (i : ℕ) → i < length rows → get_or rows i 0 ≡ get_or new i 0 =
     λ i h. sym (ap (λ q. get_or (q ++ drop n old) i 0) copied ∙ get_or-append rows (drop n old) 0 i h)
     in

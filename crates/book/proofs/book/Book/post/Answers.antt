@@ -41,8 +41,8 @@ bounds-measured-measured g c =
     let layout = c.args.self.now.layout in
     omega (arith, c.measure-measured.ensures.divides.0, places_most (shape layout) (layout_sized layout))
 
-pub quotient-of-requires : goal.quotient-of-requires
-quotient-of-requires g c =
+pub quotient_of-requires : goal.quotient_of-requires
+quotient_of-requires g c =
     let b = c.args.self.now in
     let m = g.S.Scale.meaning b.scale in
     let l = g.met.S.Scale.lawful b.scale in
@@ -56,8 +56,8 @@ quotient-of-requires g c =
     in
     (rest, meas.codes c.measure-measured.result.pivot)
 
-pub take-in-requires : goal.take-in-requires
-take-in-requires g c =
+pub take_in-requires : goal.take_in-requires
+take_in-requires g c =
     let b = c.args.self.now in
     let m = g.S.Scale.meaning b.scale in
     let l = g.met.S.Scale.lawful b.scale in
@@ -87,20 +87,20 @@ returns-in-Some g c =
     let l = g.met.S.Scale.lawful b.scale in
     let s = shape b.layout in
     let e = equation c.args.tie.now in
-    let new = c.take-in.new.table in
-    let took = c.take-in.ensures in
+    let new = c.take_in.new.table in
+    let took = c.take_in.ensures in
     let room : length (ledger b.table) < 64 = omega (arith, ledger_length b.table, c.len.ensures, c.if-len-ge64.false) in
     record {
       ready = (
         c.requires.0,
-        taken_stands m l s b.table c.requires.0 c.requires.1 e new c.take-in.result took,
+        taken_stands m l s b.table c.requires.0 c.requires.1 e new c.take_in.result took,
         omega (arith, took.room, c.requires.2),
       );
       answer = (
         c.if-multipliers-lt64.false,
-        accepted m l s b.table new e c.take-in.result c.requires.0 c.requires.1 c.in_ok-check.ensures room took,
+        accepted m l s b.table new e c.take_in.result c.requires.0 c.requires.1 c.in_ok-check.ensures room took,
       );
-      book = (refl, refl, taken_ledger m l s b.table c.requires.0 c.requires.1 e new c.take-in.result took);
+      book = (refl, refl, taken_ledger m l s b.table c.requires.0 c.requires.1 e new c.take_in.result took);
       list = refl;
     }
 

@@ -24,8 +24,8 @@ listed m l s t xs is within stands =
     subst (λ (ys : List ℕ). Codes m ys × (length ys ≡ places s + places s * places s)) (sym is)
     (stands_codes m l s t within stands)
 
-pub total-at-total-requires : goal.total-at-total-requires
-total-at-total-requires g c =
+pub total_at-total-requires : goal.total_at-total-requires
+total_at-total-requires g c =
     let b = c.args.self.now in
     let m = g.S.Scale.meaning b.scale in
     let l = g.met.S.Scale.lawful b.scale in
@@ -38,8 +38,8 @@ total-at-total-requires g c =
       inside = omega (arith, rows.1);
     }
 
-pub settled-digits-requires : goal.settled-digits-requires
-settled-digits-requires g c =
+pub settled_digits-requires : goal.settled_digits-requires
+settled_digits-requires g c =
     let b = c.args.self.now in
     let m = g.S.Scale.meaning b.scale in
     let l = g.met.S.Scale.lawful b.scale in
@@ -55,14 +55,14 @@ returns g c =
     let e = equation c.args.tie.now in
     let sound = c.in_ok-check.ensures in
     let xs = vec_items b.table.rows in
-    let total_is : c.total-at-total.result ≡ total m e.terms (point_of s xs) =
-    c.total-at-total.ensures.1 ∙ ap (λ ys. total m e.terms (point_of s ys)) c.deref-rows.ensures.value
+    let total_is : c.total_at-total.result ≡ total m e.terms (point_of s xs) =
+    c.total_at-total.ensures.1 ∙ ap (λ ys. total m e.terms (point_of s ys)) c.deref-rows.ensures.value
     in
     let away = negative_is m l e.right c.negative.result (right_code m l s e sound) c.negative.ensures in
     let sum =
-    sum_is m l c.total-at-total.result c.negative.result c.sum.result
-    c.total-at-total.ensures.0 away.0 c.sum.ensures
+    sum_is m l c.total_at-total.result c.negative.result c.sum.result
+    c.total_at-total.ensures.0 away.0 c.sum.ensures
     in
     queried m l s b.table c.requires.0 c.requires.1 e sound _ (sum.1 ∙ ap₂ m.sum total_is away.1)
-    (subst (λ (ys : List ℕ). Least m s e ys (places s) c.settled-digits.result) c.deref-rows.ensures.value
-    c.settled-digits.ensures)
+    (subst (λ (ys : List ℕ). Least m s e ys (places s) c.settled_digits.result) c.deref-rows.ensures.value
+    c.settled_digits.ensures)

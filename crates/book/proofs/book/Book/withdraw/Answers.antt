@@ -12,23 +12,23 @@ nothing : {X : Type 0} (xs : List X) → length xs ≡ 0 → xs ≡ []
 nothing [] e = refl
 nothing (x ∷ xs) e = absurd (omega arith)
 
-pub returns-then-is-empty : goal.returns-then-is-empty
-returns-then-is-empty g c =
+pub returns-then-is_empty : goal.returns-then-is_empty
+returns-then-is_empty g c =
     let b = c.args.self.now in
-    let none : vec_len b.table.standing ≡ 0 = eqb-true _ _ (sym c.if-is-empty.ensures) in
+    let none : vec_len b.table.standing ≡ 0 = eqb-true _ _ (sym c.if-is_empty.ensures) in
     record {
       ready = c.requires;
       book = (ap (map equation_of) (nothing (vec_items b.table.standing) (sym b.table.standing.ok.0 ∙ none)), refl);
     }
 
-pub give-back-requires : goal.give-back-requires
-give-back-requires g c =
+pub give_back-requires : goal.give_back-requires
+give_back-requires g c =
     let b = c.args.self.now in
     let m = g.S.Scale.meaning b.scale in
     let s = shape b.layout in
-    let qs = vec_items c.take-last-last.new.self in
-    let k = c.take-last-last.result in
-    let step = last_step m s b.table qs k c.take-last-last.ensures.items c.requires.1 in
+    let qs = vec_items c.take_last-last.new.self in
+    let k = c.take_last-last.result in
+    let step = last_step m s b.table qs k c.take_last-last.ensures.items c.requires.1 in
     record { stepped = (step.0, step.1, (built_codes m s qs (length qs) step.0 step.1 step.2).0, step.3) }
 
 pub returns : goal.returns
@@ -36,19 +36,19 @@ returns g c =
     let b = c.args.self.now in
     let m = g.S.Scale.meaning b.scale in
     let s = shape b.layout in
-    let qs = vec_items c.take-last-last.new.self in
-    let k = c.take-last-last.result in
-    let new = c.give-back.new.table in
-    let step = last_step m s b.table qs k c.take-last-last.ensures.items c.requires.1 in
+    let qs = vec_items c.take_last-last.new.self in
+    let k = c.take_last-last.result in
+    let new = c.give_back.new.table in
+    let step = last_step m s b.table qs k c.take_last-last.ensures.items c.requires.1 in
     let whole = built_codes m s qs (length qs) step.0 step.1 step.2 in
-    let back = c.give-back.ensures.0 step.0 step.1 whole.0 whole.1 step.3 in
-    let standing : vec_items new.standing ≡ qs = ap vec_items c.give-back.ensures.1 in
+    let back = c.give_back.ensures.0 step.0 step.1 whole.0 whole.1 step.3 in
+    let standing : vec_items new.standing ≡ qs = ap vec_items c.give_back.ensures.1 in
     let stands : Stands m s new =
     subst (λ (q : List Standing). Built m s q (length q) (vec_items new.rows) new.free) (sym standing)
     (subst (λ (xs : List ℕ). Built m s qs (length qs) xs new.free) (sym back.0)
     (subst (λ (f : ℕ). Built m s qs (length qs) step.0 f) (sym back.1) step.2))
     in
-    let room = ap vec_capacity c.give-back.ensures.1 ∙ c.take-last-last.ensures.capacity in
+    let room = ap vec_capacity c.give_back.ensures.1 ∙ c.take_last-last.ensures.capacity in
     record {
       ready = (c.requires.0, stands, omega (arith, c.requires.2));
       book = (
@@ -56,7 +56,7 @@ returns g c =
         refl,
         (
           equation_of k,
-          ap (map equation_of) c.take-last-last.ensures.items
+          ap (map equation_of) c.take_last-last.ensures.items
               ∙ map-append equation_of qs (k ∷ [])
               ∙ ap (λ q. map equation_of q ++ (equation_of k ∷ [])) (sym standing),
         ),
