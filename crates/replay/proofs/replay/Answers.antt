@@ -37,10 +37,10 @@ loop-call-preserved g c =
       done.ready,
       done.performed.0 ∙ inv.1,
       done.performed.1 ∙ inv.2,
-      c.push-reserved.ensures.len ∙ ap (λ n. n + 1) inv.3,
-      omega (arith, c.push-reserved.ensures.capacity, inv.4),
+      c.push_reserved.ensures.len ∙ ap (λ n. n + 1) inv.3,
+      omega (arith, c.push_reserved.ensures.capacity, inv.4),
       subst₂ (λ (cs : List Call) (rs : List Answer). Run (meaning start.scale) (shape start.layout) (place_of start) cs rs (place_of new))
-          (sym (take_more calls i none c.loop-call-test.true)) (sym c.push-reserved.ensures.items) ran,
+          (sym (take_more calls i none c.loop-call-test.true)) (sym c.push_reserved.ensures.items) ran,
     )
 
 pub returns : goal.returns

@@ -7,7 +7,7 @@ use Rattle.report.proofs.posting.post_nth.Goals as goal
 -- a tie of the file is there, and a room of 32 takes its terms
 pub unreachable-requires : goal.unreachable-requires
 unreachable-requires g c =
-    c.in-default.ensures.0
+    c.in_default.ensures.0
     (tie_there c.args.file.now c.requires.formed c.args.i c.requires.within (replicate 32 (record { head = 0; counter = 0; factor = 0 })) (omega arith))
 
 pub returns : goal.returns

@@ -13,8 +13,8 @@ overflow_cast-head g c =
     let at = at_place s c.from.result c.from-counters.result c.loop-i.i sized (c.from.ensures ∙ c.heads.ensures) (c.from-counters.ensures ∙ c.counters.ensures) c.loop-i-test.true in
     omega (arith, at.1.0, sized.1)
 
-pub settled-at-requires : goal.settled-at-requires
-settled-at-requires g c =
+pub settled_at-requires : goal.settled_at-requires
+settled_at-requires g c =
     let s = shape c.args.opened.now.book.layout in
     let sized = layout_sized c.args.opened.now.book.layout in
     let at = at_place s c.from.result c.from-counters.result c.loop-i.i sized (c.from.ensures ∙ c.heads.ensures) (c.from-counters.ensures ∙ c.counters.ensures) c.loop-i-test.true in
@@ -35,11 +35,11 @@ loop-i-preserved g c =
     let P : ℕ → ℕ → Type 0 = λ j v. SettledAt m s (ledger b.table) (j / counters_of s) (j % counters_of s) v in
     let ek : c.from-counters.result ≡ counters_of s = c.from-counters.ensures ∙ c.counters.ensures in
     let at = at_place s c.from.result c.from-counters.result i (layout_sized b.layout) (c.from.ensures ∙ c.heads.ensures) ek c.loop-i-test.true in
-    let here : P i c.settled-at.result =
-    subst (λ (k : ℕ). SettledAt m s (ledger b.table) (i / k) (i % k) c.settled-at.result) ek c.settled-at.ensures
+    let here : P i c.settled_at.result =
+    subst (λ (k : ℕ). SettledAt m s (ledger b.table) (i / k) (i % k) c.settled_at.result) ek c.settled_at.ensures
     in (
       length-set c.loop-i.settled i _ ∙ c.loop-i.invariant.0,
-      each_more P i c.loop-i.settled c.settled-at.result (omega (arith, at.0, c.loop-i.invariant.0)) here c.loop-i.invariant.1,
+      each_more P i c.loop-i.settled c.settled_at.result (omega (arith, at.0, c.loop-i.invariant.0)) here c.loop-i.invariant.1,
     )
 
 pub returns : goal.returns

@@ -11,7 +11,7 @@ returns-clause-writes g c plain ok =
     let took = g.W.Write.write_str_gives in
     let r = c.in-Ok.report in
     let first = c.args.f.now in
-    let last = c.write-counters.new.f in
-    let front = c.in_ok-write-front.ensures plain refl in
+    let last = c.write_counters.new.f in
+    let front = c.in_ok-write_front.ensures plain refl in
     subst (λ (a : Result Report Refusal). HasWritten took first (printed a) last) (sym c.in-Ok.is)
-    (has_written_append took first (front_lines r) c.write-front.new.f (counter_lines r (r.heads * r.counters)) last front (c.write-counters.ensures front.plain ok))
+    (has_written_append took first (front_lines r) c.write_front.new.f (counter_lines r (r.heads * r.counters)) last front (c.write_counters.ensures front.plain ok))
