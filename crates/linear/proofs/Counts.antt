@@ -2,7 +2,7 @@
 use Rattle.std.proofs.Common.{◌≡◌, ℕ, zero, suc, ◌+◌, ◌-◌, ◌*◌, ◌/◌, ◌%◌, ◌^◌, ◌<◌, ◌≤◌, Bool, true, cond, leb, List, [], ◌∷◌, ◌++◌, map, length, get_or, sum, sym, refl, ap, ◌∙◌, subst, ap₂, mul-le-mul_right, suc-mul, mul-le-mul_left, one-mul, pow-suc, zero-mul, sub-add_cancel, mul-div_cancel, arith, pow-add, le-leb, leb-true}
 use native.Mathlib.Decide.{dec_le}
 use native.Mathlib.Nat.{pow-le-pow_right}
-use Rattle.std.specs.List.{range_with_len, AllByRecursion as All}
+use Rattle.std.specs.List.{range_with_len, AllByRecursion}
 use Rattle.std.proofs.lemmas.List.FromFn.{length-map-range_with_len, get_or-map-range_with_len}
 use Rattle.std.proofs.ByRecursion.{All-push}
 use Rattle.std.proofs.lemmas.List.Sums.{sum_by-cons}
@@ -256,7 +256,7 @@ module _ (m : Meaning) (l : Laws m) (s : Shape) (within : Within m s) (es : List
               some.2)),
         )
       where
-        last_of : (P : Equation → Type 0) (ds : List Equation) → All P (ds ++ (e ∷ [])) → All P ds × P e
+        last_of : (P : Equation → Type 0) (ds : List Equation) → AllByRecursion P (ds ++ (e ∷ [])) → AllByRecursion P ds × P e
         last_of P [] h = (tt, h.0)
         last_of P (d ∷ ds) h = let rest = last_of P ds h.1 in ((h.0, rest.0), rest.1)
 

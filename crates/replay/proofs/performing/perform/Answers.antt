@@ -12,18 +12,18 @@ use Rattle.replay.specs.Performed.{place_of}
 use Rattle.replay.proofs.Running.{post_step, query_step, sheet_step, withdraw_step}
 use Rattle.replay.proofs.performing.perform.Goals as goal
 
-pub returns-in_ok-list : goal.returns-in_ok-list
-returns-in_ok-list g c =
+pub returns-in_ok-list-in-Post : goal.returns-in_ok-list-in-Post
+returns-in_ok-list-in-Post g c =
     let meaning = g.S.Scale.meaning in
     let b = c.args.book.now.book in
     let new = c.post-answer.new.self.book in
     let t = c.in-Post.tie in
     let list = c.in-Post.numbers in
     let r = c.post-answer.result in
-    let v = with_items c.in_ok-list.list c.post-answer.new.multipliers in
-    let handed = c.deref-mut.ensures.value ∙ c.in_ok-list.ensures.items in
+    let v = with_items c.in_ok-list-in-Post.list c.post-answer.new.multipliers in
+    let handed = c.deref_mut.ensures.value ∙ c.in_ok-list-in-Post.ensures.items in
     let held : vec_items v ≡ c.post-answer.new.multipliers =
-    with_items_is c.in_ok-list.list c.post-answer.new.multipliers (c.post-answer.auto.multipliers ∙ c.deref-mut.ensures.len)
+    with_items_is c.in_ok-list-in-Post.list c.post-answer.new.multipliers (c.post-answer.auto.multipliers ∙ c.deref_mut.ensures.len)
     in
     let step =
     post_step meaning b new t list r v
@@ -71,16 +71,16 @@ returns-in-Query g c =
       );
     }
 
-pub returns-in_ok-list-2 : goal.returns-in_ok-list-2
-returns-in_ok-list-2 g c =
+pub returns-in_ok-list-in-Sheet : goal.returns-in_ok-list-in-Sheet
+returns-in_ok-list-in-Sheet g c =
     let meaning = g.S.Scale.meaning in
     let b = c.args.book.now.book in
     let list = c.in-Sheet.numbers in
     let r = c.sheet-answer.result in
-    let v = with_items c.in_ok-list-2.list c.sheet-answer.new.list in
-    let handed = c.deref-mut-in-Sheet.ensures.value ∙ c.in_ok-list-2.ensures.items in
+    let v = with_items c.in_ok-list-in-Sheet.list c.sheet-answer.new.list in
+    let handed = c.deref_mut-in-Sheet.ensures.value ∙ c.in_ok-list-in-Sheet.ensures.items in
     let held : vec_items v ≡ c.sheet-answer.new.list =
-    with_items_is c.in_ok-list-2.list c.sheet-answer.new.list (c.sheet-answer.auto.list ∙ c.deref-mut-in-Sheet.ensures.len)
+    with_items_is c.in_ok-list-in-Sheet.list c.sheet-answer.new.list (c.sheet-answer.auto.list ∙ c.deref_mut-in-Sheet.ensures.len)
     in
     let drawn =
     subst₂ (λ (ys zs : List ℕ). MatchResult r (DrawnFrom meaning b ys zs) (λ _. DrawStopped b ys zs)) handed (sym held) c.sheet-answer.ensures

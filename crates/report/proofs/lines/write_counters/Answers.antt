@@ -18,6 +18,6 @@ loop-i-preserved g c plain =
     let is : text c.from-counters.result c.settled_at-digits.result ≡ counter_line r i =
     ap (λ k. text k c.settled_at-digits.result) c.from-counters.ensures ∙ ap (text r.counters) c.settled_at-digits.ensures
     in
-    let line = has_written_of_eq took c.loop-i.f _ (counter_line r i) last is (c.in_ok-write.ensures.shows sofar.plain refl) in
+    let line = has_written_of_eq took c.loop-i.f _ (counter_line r i) last is (c.in_ok-write.ensures.writes sofar.plain refl) in
     subst (λ (n : ℕ). HasWritten took first (counter_lines r n) last) (sym (add-one i))
     (has_written_append took first (counter_lines r i) c.loop-i.f (counter_line r i) last sofar line)
