@@ -16,7 +16,7 @@ use Rattle.book.specs.declared.standing.Standing.{Standing}
 use Rattle.book.specs.declared.table.Table.{Table}
 use Rattle.book.specs.Rows.{Codes}
 use Rattle.book.specs.Sheets.{Exact, generator_of, point_of}
-use Rattle.book.specs.Standing.{Built, Empty, Stands, Stepped, TakenIn, equation_of, ledger, nth_standing, nobody, rest}
+use Rattle.book.specs.Standing.{Built, Empty, Stands, Stepped, TakenIn, equation_of, ledger, nth_standing, nobody}
 use Rattle.book.specs.Measures.{Measures}
 use Rattle.book.specs.Posting.{Accepted, Shown}
 use Rattle.book.proofs.Counted.{built_count, fall}

@@ -1,5 +1,5 @@
 -- A pivot among products.
-use Rattle.std.specs.Prelude.{◌≡◌, ℕ, ◌<◌, ◌≤◌, List, ◌≢◌, slice_index}
+use Rattle.std.specs.Prelude.{ℕ, ◌<◌, ◌≤◌, List, ◌≢◌, slice_index}
 use Rattle.scale.specs.Meaning.{Meaning, Quotient}
 
 -- the pivot's product divides each other, with these quotients

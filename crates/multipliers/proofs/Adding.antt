@@ -6,7 +6,7 @@ use Rattle.scale.proofs.Codes.{power_code, reading_code, reading_of, zero_code}
 use Rattle.scale.proofs.Coded.{summed_code}
 use Rattle.scale.proofs.Levels.{product_zero}
 use Rattle.ties.specs.declared.tie.Term.{Term}
-use Rattle.ties.specs.Layouts.{Shape, Has, counters_of, place, shape}
+use Rattle.ties.specs.Layouts.{Shape, Has, place, shape}
 use Rattle.ties.specs.Equations.{Equation, depth, term_at}
 use Rattle.ties.specs.declared.layout.Layout.{Layout}
 use Rattle.ties.proofs.Places.{layout_sized, place_apart, place_below, places_most}

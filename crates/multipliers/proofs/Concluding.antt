@@ -1,9 +1,9 @@
 -- From the totals to the answer.
-use Rattle.std.proofs.Common.{◌≡◌, ℕ, zero, suc, ◌+◌, ◌-◌, ◌<◌, ◌≤◌, Bool, true, List, length, get_or, replicate, Decides, sym, refl, ap, ◌∙◌, subst, subst₂, add-one, arith, below_more}
+use Rattle.std.proofs.Common.{◌≡◌, ℕ, zero, suc, ◌+◌, ◌<◌, ◌≤◌, Bool, true, List, length, get_or, replicate, Decides, sym, refl, ap, ◌∙◌, subst, subst₂, add-one, arith, below_more}
 use Rattle.std.specs.List.{AllByRecursion}
 use Rattle.std.proofs.ByRecursion.{All-from_get_or}
 use Rattle.std.proofs.lemmas.Bool.Decides.{Decides-like}
-use Rattle.scale.specs.Meaning.{Meaning, Laws, Code, summed}
+use Rattle.scale.specs.Meaning.{Meaning, Laws, Code}
 use Rattle.scale.proofs.Codes.{zero_code}
 use Rattle.ties.specs.Layouts.{Shape, place}
 use Rattle.ties.specs.Equations.{Equation, Contradictory, nth_equation}

@@ -1,5 +1,5 @@
 -- The product of a row of factors with a row of codes, over all heads and counters.
-use Rattle.std.proofs.Common.{◌≡◌, ℕ, ◌<◌, true, false, cond, ◌&&◌, eqb, sym, refl, ap, ◌∙◌, eq-eqb, ne_eqb}
+use Rattle.std.proofs.Common.{◌≡◌, ℕ, ◌<◌, cond, ◌&&◌, eqb, sym, refl, ap, ◌∙◌, eq-eqb, ne_eqb}
 use Rattle.scale.proofs.Ring.{Ring, zero_mul}
 use Rattle.scale.proofs.Sums.{ring_sum, sum_cong, sum_none, sum_swap, sum_only, mul_sum}
 

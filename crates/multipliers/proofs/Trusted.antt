@@ -1,16 +1,15 @@
 -- Why a yes can be trusted: where multipliers refute equations, no assignment meets them all.
-use Rattle.std.proofs.Common.{◌≡◌, ℕ, zero, suc, ◌-◌, ◌<◌, ◌≤◌, Bool, true, false, cond, ◌&&◌, eqb, List, length, get_or, sym, refl, ap, ◌∙◌, subst, ap₂, arith}
+use Rattle.std.proofs.Common.{◌≡◌, ℕ, ◌-◌, ◌<◌, ◌≤◌, Bool, true, false, cond, ◌&&◌, eqb, List, length, get_or, sym, refl, ap, ◌∙◌, subst, ap₂, arith}
 use Rattle.std.specs.List.{AllByRecursion}
 use Rattle.std.proofs.ByRecursion.{All-get_or}
-use Rattle.scale.specs.Meaning.{Meaning, Laws, Code, digits, power, reading, summed}
+use Rattle.scale.specs.Meaning.{Meaning, Laws, Code, digits, power, summed}
 use Rattle.scale.proofs.Codes.{power_code, reading_of}
 use Rattle.scale.proofs.Coded.{Coded, codes, code, same_code, summed_sum}
 use Rattle.scale.proofs.Levels.{raised_zero}
 use Rattle.scale.proofs.Ring.{Ring, equal, mul_neg}
 use Rattle.scale.proofs.Sums.{ring_sum, sum_cong}
-use Rattle.ties.specs.declared.tie.Term.{Term}
 use Rattle.ties.specs.Layouts.{Shape, Within, Assignment, Assigns, counters_of, less}
-use Rattle.ties.specs.Equations.{Equation, Contradictory, Solves, Meets, code_at, depth, nth_equation, term_at, total, value}
+use Rattle.ties.specs.Equations.{Equation, Contradictory, Meets, code_at, depth, nth_equation, term_at, total, value}
 use Rattle.ties.specs.Faults.{Sound}
 use Rattle.multipliers.specs.Refuting.{Refutes, factor_at, counter_share, right_share}
 use Rattle.multipliers.proofs.Pairing.{ring_pair, pair_none, pair_mul, pair_sum, pair_only}

@@ -1,5 +1,5 @@
 -- Multipliers that show a contradiction: what the check adds up.
-use Rattle.std.specs.Prelude.{◌≡◌, ℕ, ◌-◌, ◌<◌, cond, ◌&&◌, List, [], length, ◌==◌, slice_index}
+use Rattle.std.specs.Prelude.{◌≡◌, ℕ, ◌-◌, cond, ◌&&◌, List, length, ◌==◌, slice_index}
 use Rattle.scale.specs.Meaning.{Meaning, digits, power, reading, summed}
 use Rattle.ties.specs.declared.tie.Term.{Term}
 use Rattle.ties.specs.Layouts.{Shape, Has}

@@ -1,5 +1,5 @@
 -- Totals, one for each counter in the order head, then counter.
-use Rattle.std.specs.Prelude.{◌≡◌, ℕ, ◌<◌, List, length, replicate, ◌≢◌, slice_index}
+use Rattle.std.specs.Prelude.{◌≡◌, ℕ, List, length, replicate, ◌≢◌, slice_index}
 use Rattle.scale.specs.Meaning.{Meaning, Code, summed}
 use Rattle.ties.specs.Layouts.{Shape, Has, place}
 use Rattle.ties.specs.Equations.{Equation}

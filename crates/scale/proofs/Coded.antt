@@ -1,11 +1,10 @@
 -- The codes of a scale are a commutative ring.
-use Rattle.std.proofs.Common.{◌≡◌, ℕ, zero, suc, ◌%◌, ◌<◌, ◌≤◌, sym, refl, ap, ◌∙◌, ap₂, arith}
-use mathlib.Core.Path.{fst_path}
+use Rattle.std.proofs.Common.{◌≡◌, ℕ, zero, suc, ◌<◌, refl, ap₂, arith}
 use mathlib.Core.HLevel.{Σ_prop_path}
 use native.Mathlib.Bridge.{le_prop}
 use Rattle.scale.specs.Meaning.{Meaning, Laws, Code, reading, size, summed}
 use Rattle.scale.proofs.Codes.{reading_code, reading_of, zero_code}
-use Rattle.scale.proofs.Ring.{Ring, zero_add}
+use Rattle.scale.proofs.Ring.{Ring}
 use Rattle.scale.proofs.Sums.{ring_sum}
 
 -- a number with the proof that it is a code

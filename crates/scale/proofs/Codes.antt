@@ -1,5 +1,5 @@
 -- First facts of codes, for every scale.
-use Rattle.std.proofs.Common.{◌≡◌, ℕ, zero, suc, ◌%◌, ◌^◌, ◌<◌, ◌≤◌, ap, ◌∙◌, ap₂, mod-lt, mod-eq_of_lt, arith}
+use Rattle.std.proofs.Common.{◌≡◌, ℕ, zero, suc, ◌^◌, ◌<◌, ◌≤◌, ap, ◌∙◌, ap₂, mod-lt, mod-eq_of_lt, arith}
 use native.Mathlib.Nat.{zero-mod, one-le-pow}
 use Rattle.scale.specs.Meaning.{Meaning, Laws, Code, reading, size, base, digits, power}
 

@@ -1,6 +1,6 @@
 -- A scale is the arithmetic of one sort of wrapping counter.
 -- Its meaning is one value, and its laws are stated of that value alone.
-use Rattle.std.specs.Prelude.{◌≡◌, ℕ, zero, suc, ◌+◌, ◌-◌, ◌*◌, ◌%◌, ◌^◌, ◌<◌, ◌≤◌, min, cond, Option, MatchOption, nat_le}
+use Rattle.std.specs.Prelude.{◌≡◌, ℕ, zero, suc, ◌+◌, ◌-◌, ◌%◌, ◌^◌, ◌<◌, ◌≤◌, min, cond, Option, MatchOption, nat_le}
 use Rattle.scale.specs.declared.Mark.{Mark}
 
 -- what a scale means: its mark, one, the step, and its functions at codes

@@ -1,6 +1,5 @@
-use Rattle.std.proofs.lemmas.Result.{err_from_is_err_and}
 use Rattle.tie_file.proofs.WellFormed.{layout_there}
-use Rattle.marked_check.proofs.Naming.{answered, made_scale, numbers_of, stopped_made}
+use Rattle.marked_check.proofs.Naming.{answered, made_scale, numbers_of}
 use Rattle.marked_check.proofs.check_marked.Goals as goal
 
 pub unreachable-requires : goal.unreachable-requires

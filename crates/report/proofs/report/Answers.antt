@@ -1,4 +1,4 @@
-use Rattle.tie_file.proofs.WellFormed.{layout_shape, layout_there}
+use Rattle.tie_file.proofs.WellFormed.{layout_there}
 use Rattle.report.proofs.report.Goals as goal
 
 pub unreachable-requires : goal.unreachable-requires

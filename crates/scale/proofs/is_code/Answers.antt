@@ -1,6 +1,6 @@
-use Rattle.std.proofs.Common.{◌≡◌, ℕ, eqb, sym, ap, ◌∙◌, subst}
+use Rattle.std.proofs.Common.{◌≡◌, eqb, sym, ◌∙◌, subst}
 use Rattle.std.proofs.lemmas.Bool.Decides.{Decides-eqb, Decides-like}
-use Rattle.scale.specs.Meaning.{Meaning, Laws, Code, reading}
+use Rattle.scale.specs.Meaning.{Code, reading}
 use Rattle.scale.proofs.Codes.{reading_code, reading_of, sum_zero_reading}
 use Rattle.scale.proofs.is_code.Goals as goal
 

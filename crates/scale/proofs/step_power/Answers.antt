@@ -1,4 +1,4 @@
-use Rattle.std.proofs.Common.{◌≡◌, ℕ, suc, sym, ap, ◌∙◌, subst, ap₂, add-one}
+use Rattle.std.proofs.Common.{◌≡◌, suc, sym, ap, ◌∙◌, ap₂, add-one}
 use Rattle.scale.specs.Meaning.{power, reading}
 use Rattle.scale.proofs.Codes.{power_more}
 use Rattle.scale.proofs.step_power.Goals as goal

@@ -1,7 +1,7 @@
 use Rattle.std.proofs.Common.{◌≡◌, ℕ, ◌+◌, get_or, sym, ap, ◌∙◌, ap₂, add-one, arith}
 use Rattle.scale.specs.Meaning.{summed}
 use Rattle.ties.specs.Equations.{code_at, term_at}
-use Rattle.ties.specs.Layouts.{shape, place}
+use Rattle.ties.specs.Layouts.{shape}
 use Rattle.ties.proofs.Places.{place_below}
 use Rattle.book.specs.Rows.{row_at}
 use Rattle.book.proofs.Filling.{sum_product_is}

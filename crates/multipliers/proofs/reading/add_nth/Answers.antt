@@ -1,6 +1,6 @@
 use Rattle.std.proofs.Common.{◌≡◌, ℕ, ◌+◌, ◌<◌, List, length, replicate, sym, refl, ◌∙◌, subst, arith}
 use Rattle.ties.specs.declared.tie.Term.{Term}
-use Rattle.ties.specs.Equations.{Equation, equation}
+use Rattle.ties.specs.Equations.{Equation}
 use Rattle.ties.specs.Faults.{Faulty, Sound}
 use Rattle.ties.specs.Layouts.{shape}
 use Rattle.tie_file.specs.Reading.{HasTie}

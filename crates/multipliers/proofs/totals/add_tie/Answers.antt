@@ -2,7 +2,7 @@ use Rattle.std.proofs.Common.{◌≡◌, ℕ, ◌-◌, length, refl, ap, ◌∙�
 use Rattle.scale.specs.Meaning.{digits}
 use Rattle.ties.specs.Equations.{depth, equation}
 use Rattle.ties.specs.Layouts.{shape}
-use Rattle.multipliers.specs.Refuting.{factor_at, weight}
+use Rattle.multipliers.specs.Refuting.{factor_at}
 use Rattle.multipliers.specs.Totals.{Shares}
 use Rattle.multipliers.proofs.Adding.{right_is, weight_is}
 use Rattle.multipliers.proofs.totals.add_tie.Goals as goal

@@ -1,4 +1,4 @@
-use Rattle.std.proofs.Common.{◌≡◌, ℕ, ◌*◌, ◌<◌, get_or, sym, ap, ◌∙◌, subst}
+use Rattle.std.proofs.Common.{ℕ, ◌*◌, ◌<◌, get_or, sym, ap, ◌∙◌, subst}
 use borrow.Author.Tests.{clash, no_way}
 use Rattle.ties.specs.Layouts.{counters_of, shape}
 use Rattle.ties.proofs.Places.{place_counter}

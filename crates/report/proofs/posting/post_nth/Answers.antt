@@ -1,4 +1,4 @@
-use Rattle.std.proofs.Common.{ℕ, replicate, sym, ◌∙◌, subst, arith}
+use Rattle.std.proofs.Common.{replicate, sym, ◌∙◌, subst, arith}
 use Rattle.ties.specs.Equations.{Equation}
 use Rattle.tie_file.proofs.WellFormed.{equations_at, tie_there}
 use Rattle.book.specs.Posting.{Posted, PostedTo}

@@ -1,4 +1,4 @@
-use Rattle.std.proofs.Common.{◌≡◌, ◌≤◌, ap, ◌∙◌, arith, le-leb, leb-true}
+use Rattle.std.proofs.Common.{◌≡◌, ap, ◌∙◌, arith, le-leb, leb-true}
 use Rattle.scale.proofs.Codes.{reading_of}
 use Rattle.ties.proofs.terms.reaches.Goals as goal
 

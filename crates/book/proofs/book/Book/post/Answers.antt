@@ -1,4 +1,4 @@
-use Rattle.std.proofs.Common.{◌≡◌, ℕ, ◌+◌, ◌-◌, ◌*◌, ◌<◌, List, [], ◌∷◌, length, get_or, vec_items, vec_len, sym, refl, ap, ◌∙◌, subst, arith, length-append}
+use Rattle.std.proofs.Common.{◌≡◌, ℕ, ◌+◌, ◌*◌, ◌<◌, List, [], ◌∷◌, length, get_or, vec_items, vec_len, sym, refl, ap, ◌∙◌, subst, arith, length-append}
 use lib.ListN.{length-map}
 use Rattle.scale.specs.Meaning.{Code}
 use Rattle.ties.specs.Equations.{equation}

@@ -1,7 +1,6 @@
-use Rattle.std.proofs.Common.{◌≡◌, ℕ, ◌<◌, ◌≤◌, length, get_or, take, sym, ap, ◌∙◌, subst, arith, length-set, rules}
+use Rattle.std.proofs.Common.{◌≡◌, ℕ, ◌<◌, length, get_or, take, ap, ◌∙◌, subst, arith, length-set}
 use Rattle.std.proofs.lemmas.List.{take_more, take_more_set, take_all}
-use Rattle.scale.specs.Meaning.{digits}
-use Rattle.ties.specs.Layouts.{InWidths, Shape}
+use Rattle.ties.specs.Layouts.{InWidths}
 use Rattle.ties.proofs.layout.Layout.new.Goals as goal
 
 pub loop-r-preserved : goal.loop-r-preserved
