@@ -5,29 +5,35 @@
 
 ghost use Rattle.std.specs.Str.Parse.{ParsesUnsigned};
 
-use anyhow::anyhow;
+use failure::Failure;
 use marked_check::check_marked;
 use marked_check::line::Line;
 use std::env;
 use std::fs::File;
 use std::io::Read;
+use std::process::ExitCode;
+
+mod failure;
 
 // One byte more than a tie file may have: a longer file is refused without being read to its end.
 const ENOUGH: u64 = 16_385;
 
-fn main(rt: HostRuntime) -> anyhow::Result<()> {
-    let result = run(&rt);
-    if let Err(error) = &result {
-        eprintln!(rt; "check_multipliers: {error}")?;
+// The message is written here: an error that `main` returned would be written once more.
+fn main(rt: HostRuntime) -> Result<ExitCode, Failure> {
+    match run(&rt) {
+        Ok(()) => Ok(ExitCode::SUCCESS),
+        Err(error) => {
+            eprintln!(rt; "check_multipliers: {error}")?;
+            Ok(ExitCode::FAILURE)
+        }
     }
-    result
 }
 
-fn run(rt: &HostRuntime) -> anyhow::Result<()> {
+fn run(rt: &HostRuntime) -> Result<(), Failure> {
     let mut words = env::args(rt)?;
     let _program = words.next();
     let Some(path) = words.next() else {
-        return Err(anyhow!("usage: check_multipliers FILE NUMBER .."));
+        return Err(Failure::Usage);
     };
     let mut multipliers = Vec::new(rt.alloc());
     for word in words {
@@ -39,19 +45,19 @@ fn run(rt: &HostRuntime) -> anyhow::Result<()> {
 }
 
 // The number below 2^32 that the word writes in base ten, where a plus may stand first; an error exactly where it writes none.
-fn multiplier(rt: &HostRuntime, word: &str) -> anyhow::Result<u32>
+fn multiplier(rt: &HostRuntime, word: &str) -> Result<u32, Failure>
     ensures reads { ParsesUnsigned 32 10 word.now result }
 {
     match word.parse::<u32>() {
         Ok(number) => Ok(number),
-        Err(_) => Err(anyhow!(format!(in rt.alloc(); "no number below 4294967296: {word}")?)),
+        Err(_) => Err(Failure::Number(word.to_string(rt.alloc())?)),
     }
 }
 
-fn contents(rt: &HostRuntime, path: &str) -> anyhow::Result<Vec<u8>> {
+fn contents(rt: &HostRuntime, path: &str) -> Result<Vec<u8>, Failure> {
     let file = match File::open(rt, path) {
         Ok(file) => file,
-        Err(error) => return Err(anyhow!(format!(in rt.alloc(); "cannot read {path}: {error}")?)),
+        Err(error) => return Err(Failure::File(path.to_string(rt.alloc())?, error)),
     };
     let mut bytes = Vec::new(rt.alloc());
     file.take(ENOUGH).read_to_end(&mut bytes)?;

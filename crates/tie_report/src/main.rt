@@ -9,16 +9,20 @@ use anyhow::anyhow;
 use report::lines::Lines;
 use report::report;
 use std::io::Read;
+use std::process::ExitCode;
 
 // One byte more than a tie file may have: a longer file is refused without being read to its end.
 const ENOUGH: u64 = 16_385;
 
-fn main(rt: HostRuntime) -> anyhow::Result<()> {
-    let result = run(&rt);
-    if let Err(error) = &result {
-        eprintln!(rt; "tie_report: {error}")?;
+// The message is written here: an error that `main` returned would be written once more.
+fn main(rt: HostRuntime) -> anyhow::Result<ExitCode> {
+    match run(&rt) {
+        Ok(()) => Ok(ExitCode::SUCCESS),
+        Err(error) => {
+            eprintln!(rt; "tie_report: {error}")?;
+            Ok(ExitCode::FAILURE)
+        }
     }
-    result
 }
 
 fn run(rt: &HostRuntime) -> anyhow::Result<()> {
