@@ -1,3 +1,7 @@
+ghost use Rattle.std.specs.Prelude.{◌≡◌};
+ghost use Rattle.check_multipliers.specs.declared.failure.Failure.TheVariants.{Io};
+ghost use Rattle.check_multipliers.specs.Failures.{WantsMemory};
+
 use std::alloc::{AllocError, AllocFailed};
 use std::{fmt, io};
 
@@ -24,18 +28,24 @@ impl fmt::Display for Failure {
 }
 
 impl From<io::Error> for Failure {
-    fn from(error: io::Error) -> Failure {
-        Failure::Io(error)
+    ghost from_gives = { λ e f. f ≡ Io e };
+
+    fn from(cause: io::Error) -> Failure {
+        Failure::Io(cause)
     }
 }
 
 impl From<AllocError> for Failure {
+    ghost from_gives = { λ _ f. WantsMemory f };
+
     fn from(error: AllocError) -> Failure {
         Failure::Io(error.into())
     }
 }
 
 impl<T: Drop> From<AllocFailed<T>> for Failure {
+    ghost from_gives = { λ _ f. WantsMemory f };
+
     fn from(error: AllocFailed<T>) -> Failure {
         Failure::Io(error.into())
     }
