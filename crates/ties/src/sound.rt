@@ -29,3 +29,14 @@ impl<S: Scale> SoundTie<'_, S> {
         step_power(self.scale, self.scale.mark().length.saturating_sub(depth))
     }
 }
+
+// A derive would ask it of the scale too, which is only borrowed.
+impl<S: Scale> Drop for SoundTie<'_, S> {
+    fn drop(self) {
+        let SoundTie {
+            scale: _,
+            layout: _,
+            tie: _,
+        } = self;
+    }
+}
