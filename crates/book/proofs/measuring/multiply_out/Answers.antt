@@ -3,7 +3,7 @@ use Rattle.ties.specs.Equations.{total}
 use Rattle.ties.specs.Layouts.{places, shape}
 use Rattle.book.specs.Rows.{row_at}
 use Rattle.book.specs.Sheets.{generator_of}
-use Rattle.multipliers.proofs.Adding.{codes_set}
+use Rattle.multipliers.proofs.Growing.{codes_set}
 use Rattle.book.proofs.Filling.{holds_more, product_is}
 use Rattle.book.proofs.Spots.{row_inside}
 use Rattle.book.proofs.measuring.multiply_out.Goals as goal

@@ -1,5 +1,5 @@
 use Rattle.std.proofs.Common.{◌≡◌, ℕ, ◌+◌, ◌<◌, ◌≤◌, ◌⊎◌, length, get_or, sym, ap, ◌∙◌, ap₂, inl, inr, arith}
-use Rattle.multipliers.proofs.Adding.{codes_set}
+use Rattle.multipliers.proofs.Growing.{codes_set}
 use Rattle.book.proofs.Filling.{add_nothing, filled_more, filled_same, sum_product_is}
 use Rattle.book.proofs.rows.add_multiple.Goals as goal
 
