@@ -25,9 +25,9 @@ impl AnyScale {
         ensures { MatchResult result (λ s. Numbers mark × (any_scale s ≡ named mark)) (λ _. Numbers mark → ⊥) }
     {
         match (Kind::try_from(mark.kind)?, mark.base) {
-            (Kind::Binary, 2) => Ok(AnyScale::Binary(Binary::new(mark.length)?)),
-            (Kind::Prime, base) => Ok(AnyScale::Prime(Prime::new(base, mark.length)?)),
-            (Kind::Disc, 2) => Ok(AnyScale::Disc(Disc::new(mark.length)?)),
+            (Kind::Binary, 2) => Binary::new(mark.length).map(AnyScale::Binary),
+            (Kind::Prime, base) => Prime::new(base, mark.length).map(AnyScale::Prime),
+            (Kind::Disc, 2) => Disc::new(mark.length).map(AnyScale::Disc),
             _ => Err(ScaleFault::Numbers),
         }
     }

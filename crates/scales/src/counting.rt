@@ -81,7 +81,7 @@ impl<D: Digits> Scale for Counting<D> {
         let a = self.reading(a);
         let b = self.reading(b);
         if b == 0 {
-            return if a == 0 { Some(0) } else { None };
+            return (a == 0).then_some(0);
         }
         let parts = self.digits.split(b);
         if a % parts.power != 0 {

@@ -20,8 +20,9 @@ impl Disc {
     pub fn new(length: u8) -> Result<Disc, ScaleFault>
         ensures { MatchResult result (λ s. Numbers (disc_mark length) × (disc s ≡ named (disc_mark length))) (λ _. Numbers (disc_mark length) → ⊥) }
     {
-        let positions = Binary::new(length)?;
-        Ok(Disc { positions })
+        Ok(Disc {
+            positions: Binary::new(length)?,
+        })
     }
 
     fn position(&self, code: u32) -> u32
@@ -39,17 +40,15 @@ fn gray_code(position: u32) -> u32
     position ^ (position >> 1)
 }
 
-// Each line takes in as many digits again as stand in `p` already.
+// Each turn takes in as many digits again as stand in the position already.
 fn position_of_gray(code: u32) -> u32
     ensures { result ≡ ungray 32 code }
 {
-    let mut p = code;
-    p ^= p >> 1;
-    p ^= p >> 2;
-    p ^= p >> 4;
-    p ^= p >> 8;
-    p ^= p >> 16;
-    p
+    let mut position = code;
+    for digits in [1u32, 2, 4, 8, 16] {
+        position ^= position >> digits;
+    }
+    position
 }
 
 impl Scale for Disc {
