@@ -4,10 +4,9 @@ ghost use Rattle.std.specs.Prelude.{◌≡◌, ◌<◌, MatchBool, MatchOption};
 ghost use Rattle.tie_file.specs.Steps.{BodyFits, LayoutLength};
 ghost use Rattle.tie_file.specs.Table.{HasBodies, HasEntries, HasTable, entries};
 
+use crate::MOST_BYTES;
 use crate::body::count_terms;
 use crate::entry::{Entry, nth_entry, nth_line};
-
-const MOST_BYTES: usize = 16_384;
 
 const MOST_ENTRIES: usize = 65;
 

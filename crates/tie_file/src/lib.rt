@@ -18,6 +18,9 @@ pub mod fault;
 pub mod file;
 pub mod parts;
 
+// A longer file is refused.
+pub const MOST_BYTES: usize = 16_384;
+
 // The file, where it is well formed. Each check is made over the whole of it before the next.
 pub fn verify(file: &[u8]) -> Result<TieFile<'_>, FileFault>
     ensures { let f = file.now in MatchResult result (λ t. WellFormed f × (t ≡ f)) (Bad f) }
