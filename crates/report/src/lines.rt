@@ -3,10 +3,12 @@
 ghost use Rattle.std.specs.Prelude.{◌≡◌, ◌*◌, Some};
 ghost use Rattle.report.specs.Printed.{counter_lines, front_lines, lines_of, printed};
 ghost use Rattle.std.specs.Fmt.{WritesOnOk};
+ghost use Rattle.std.specs.Result.{result_ok};
 
 use crate::answer::Report;
 use crate::fault::ReportFault;
 use refusals::Refusal;
+use std::alloc::AllocError;
 use std::fmt;
 
 #[derive(Drop)]
@@ -14,12 +16,12 @@ pub struct Lines(pub Result<Report, Refusal>);
 
 impl Lines {
     // The lines for what a report answered: there are none for want of memory.
-    pub fn new(answer: Result<Report, ReportFault>) -> Option<Lines>
-        ensures { result ≡ lines_of answer }
+    pub fn new(answer: Result<Report, ReportFault>) -> Result<Lines, AllocError>
+        ensures { result_ok result ≡ lines_of answer }
     {
         match answer {
-            Ok(report) => Some(Lines(Ok(report))),
-            Err(fault) => Some(Lines(Err(fault.refusal()?))),
+            Ok(report) => Ok(Lines(Ok(report))),
+            Err(fault) => Ok(Lines(Err(Refusal::try_from(fault)?))),
         }
     }
 }
@@ -50,7 +52,7 @@ fn write_front<W: fmt::Write>(report: &Report, f: &mut fmt::Formatter<W>) -> fmt
         None => write!(f, "standing {standing} free {free}"),
         Some(stop) => {
             let tie = stop.tie;
-            let number = stop.fault.refusal().number();
+            let number = Refusal::from(stop.fault).number();
             write!(f, "standing {standing} free {free}\nstopped {tie} {number}")
         }
     }
