@@ -1,7 +1,6 @@
 // What can stop the calls of a book.
 
 ghost use Rattle.std.specs.Prelude.{◌≡◌};
-ghost use Rattle.std.specs.Result.{result_ok};
 ghost use Rattle.book.specs.declared.fault.OpenFault.TheVariants.{Layout as OfLayout, Memory as NoMemory};
 ghost use Rattle.book.specs.declared.fault.PostFault.TheVariants.{Tie as OfTie};
 ghost use Rattle.book.specs.Faults.{open_refusal, post_place, post_refusal, sheet_refusal, withdraw_refusal};
@@ -17,16 +16,14 @@ pub enum OpenFault {
     Memory,
 }
 
-// Want of memory is no refusal.
-impl TryFrom<OpenFault> for Refusal {
-    type Error = AllocError;
-
-    ghost try_from_gives = { λ f r. result_ok r ≡ open_refusal f };
-
-    fn try_from(fault: OpenFault) -> Result<Refusal, AllocError> {
-        match fault {
-            OpenFault::Layout(fault) => Ok(fault.refusal()),
-            OpenFault::Memory => Err(AllocError),
+impl OpenFault {
+    // The refusal, where it is one: want of memory is none.
+    pub fn refusal(self) -> Option<Refusal>
+        ensures { result ≡ open_refusal self }
+    {
+        match self {
+            OpenFault::Layout(fault) => Some(fault.into()),
+            OpenFault::Memory => None,
         }
     }
 }
@@ -64,7 +61,7 @@ impl From<PostFault> for Refusal {
     fn from(fault: PostFault) -> Refusal {
         match fault {
             PostFault::List => Refusal::List,
-            PostFault::Tie(fault) => fault.refusal(),
+            PostFault::Tie(fault) => fault.into(),
             PostFault::Full => Refusal::Full,
             PostFault::Contradiction => Refusal::Contradiction,
         }

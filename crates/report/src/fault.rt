@@ -1,14 +1,12 @@
 // What can stop a report before the first tie.
 
 ghost use Rattle.std.specs.Prelude.{◌≡◌};
-ghost use Rattle.std.specs.Result.{result_ok};
 ghost use Rattle.report.specs.declared.fault.ReportFault.TheVariants.{File as OfFile, Scale as OfScale};
 ghost use Rattle.report.specs.Faults.{from_open, report_refusal};
 
 use book::fault::OpenFault;
 use refusals::Refusal;
 use scales::ScaleFault;
-use std::alloc::AllocError;
 use tie_file::fault::FileFault;
 use ties::fault::LayoutFault;
 
@@ -22,18 +20,16 @@ pub enum ReportFault {
     Memory,
 }
 
-// Want of memory is no refusal.
-impl TryFrom<ReportFault> for Refusal {
-    type Error = AllocError;
-
-    ghost try_from_gives = { λ f r. result_ok r ≡ report_refusal f };
-
-    fn try_from(fault: ReportFault) -> Result<Refusal, AllocError> {
-        match fault {
-            ReportFault::File(fault) => Ok(fault.refusal()),
-            ReportFault::Scale(fault) => Ok(fault.refusal()),
-            ReportFault::Layout(fault) => Ok(fault.refusal()),
-            ReportFault::Memory => Err(AllocError),
+impl ReportFault {
+    // The refusal, where it is one: want of memory is none.
+    pub fn refusal(self) -> Option<Refusal>
+        ensures { result ≡ report_refusal self }
+    {
+        match self {
+            ReportFault::File(fault) => Some(fault.into()),
+            ReportFault::Scale(fault) => Some(fault.into()),
+            ReportFault::Layout(fault) => Some(fault.into()),
+            ReportFault::Memory => None,
         }
     }
 }

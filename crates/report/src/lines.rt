@@ -3,12 +3,10 @@
 ghost use Rattle.std.specs.Prelude.{◌≡◌, ◌*◌, Some};
 ghost use Rattle.report.specs.Printed.{counter_lines, front_lines, lines_of, printed};
 ghost use Rattle.std.specs.Fmt.{WritesOnOk};
-ghost use Rattle.std.specs.Result.{result_ok};
 
 use crate::answer::Report;
 use crate::fault::ReportFault;
 use refusals::Refusal;
-use std::alloc::AllocError;
 use std::fmt;
 
 #[derive(Drop)]
@@ -16,12 +14,12 @@ pub struct Lines(pub Result<Report, Refusal>);
 
 impl Lines {
     // The lines for what a report answered: there are none for want of memory.
-    pub fn new(answer: Result<Report, ReportFault>) -> Result<Lines, AllocError>
-        ensures { result_ok result ≡ lines_of answer }
+    pub fn new(answer: Result<Report, ReportFault>) -> Option<Lines>
+        ensures { result ≡ lines_of answer }
     {
         match answer {
-            Ok(report) => Ok(Lines(Ok(report))),
-            Err(fault) => Ok(Lines(Err(Refusal::try_from(fault)?))),
+            Ok(report) => Some(Lines(Ok(report))),
+            Err(fault) => Some(Lines(Err(fault.refusal()?))),
         }
     }
 }
@@ -33,7 +31,7 @@ impl fmt::Display for Lines {
         let report = match self.0 {
             Ok(report) => report,
             Err(refusal) => {
-                let number = refusal.number();
+                let number = u8::from(refusal);
                 return write!(f, "refused {number}");
             }
         };
@@ -52,7 +50,7 @@ fn write_front<W: fmt::Write>(report: &Report, f: &mut fmt::Formatter<W>) -> fmt
         None => write!(f, "standing {standing} free {free}"),
         Some(stop) => {
             let tie = stop.tie;
-            let number = Refusal::from(stop.fault).number();
+            let number = u8::from(Refusal::from(stop.fault));
             write!(f, "standing {standing} free {free}\nstopped {tie} {number}")
         }
     }

@@ -21,7 +21,7 @@ fn main(rt: HostRuntime) -> anyhow::Result<()> {
 
 fn print_report(rt: &HostRuntime, hex: &str) -> anyhow::Result<()> {
     let file = bytes_of(rt, hex)?;
-    let Ok(lines) = Lines::new(report(rt.alloc(), &file)) else {
+    let Some(lines) = Lines::new(report(rt.alloc(), &file)) else {
         return Err(anyhow!("no memory for the book"));
     };
     rt.println(lines)?;

@@ -29,7 +29,7 @@ fn main(rt: HostRuntime) -> anyhow::Result<ExitCode> {
 fn run(rt: &HostRuntime) -> anyhow::Result<()> {
     let mut file = Vec::new(rt.alloc());
     rt.stdin().take(ENOUGH).read_to_end(&mut file)?;
-    let Ok(lines) = Lines::new(report(rt.alloc(), &file)) else {
+    let Some(lines) = Lines::new(report(rt.alloc(), &file)) else {
         return Err(anyhow!("no memory for the book"));
     };
     rt.println(lines)?;
