@@ -10,7 +10,7 @@ use Rattle.book.proofs.book.Book.query.Goals as goal
 
 pub total_at-total-requires : goal.total_at-total-requires
 total_at-total-requires g c =
-    let sound = c.in_ok-check.ensures in
+    let sound = c.in_ok-check.ensures.0 in
     let rows = rows_sheet g.met.S.Scale.lawful c.self.invariant _ c.deref-rows.ensures.value in
     record {
       exist = sound.exist;
@@ -22,7 +22,7 @@ total_at-total-requires g c =
 pub settled_digits-requires : goal.settled_digits-requires
 settled_digits-requires g c =
     let rows = rows_sheet g.met.S.Scale.lawful c.self.invariant _ c.deref-rows.ensures.value in
-    record { sound = c.in_ok-check.ensures; codes = rows.0; size = rows.1 }
+    record { sound = c.in_ok-check.ensures.0; codes = rows.0; size = rows.1 }
 
 pub returns : goal.returns
 returns g c =
@@ -31,7 +31,7 @@ returns g c =
     let l = g.met.S.Scale.lawful b.scale in
     let s = shape b.layout in
     let e = equation c.args.tie.now in
-    let sound = c.in_ok-check.ensures in
+    let sound = c.in_ok-check.ensures.0 in
     let total_is : c.total_at-total.result ≡ total m e.terms (point_of s (vec_items b.table.rows)) =
     rw (← c.deref-rows.ensures.value) c.total_at-total.ensures.1
     in

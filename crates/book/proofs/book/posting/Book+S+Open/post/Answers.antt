@@ -12,7 +12,7 @@ use Rattle.book.proofs.book.posting.Book+S+Open.post.Goals as goal
 pub measure-measured-requires : goal.measure-measured-requires
 measure-measured-requires g c =
     let rows = rows_sheet g.met.S.Scale.lawful c.self.invariant _ c.deref.ensures.value in
-    record { sound = c.in_ok-check.ensures; codes = rows.0; size = rows.1 }
+    record { sound = c.in_ok-check.ensures.0; codes = rows.0; size = rows.1 }
 
 pub quotient_of-requires : goal.quotient_of-requires
 quotient_of-requires g c =
@@ -20,7 +20,7 @@ quotient_of-requires g c =
     let rows = rows_sheet g.met.S.Scale.lawful c.self.invariant _ c.deref.ensures.value in
     let meas = c.measure-measured.ensures in (
       subst (Code (g.S.Scale.meaning b.scale)) (sym meas.missing)
-          (rest_code _ (g.met.S.Scale.lawful b.scale) (shape b.layout) (equation c.args.tie.now) c.in_ok-check.ensures _ rows.0),
+          (rest_code _ (g.met.S.Scale.lawful b.scale) (shape b.layout) (equation c.args.tie.now) c.in_ok-check.ensures.0 _ rows.0),
       meas.codes c.measure-measured.result.pivot,
     )
 
@@ -38,7 +38,7 @@ take_in-requires-clause-free g c =
     let e = equation c.args.tie.now in
     let d = c.measure-measured.result in
     let meas : Measures m s e (vec_items b.table.rows) d = rw (← c.deref.ensures.value) c.measure-measured.ensures in
-    enough_free m (g.met.S.Scale.lawful b.scale) s b.table c.self.invariant.within c.self.invariant.stands e c.in_ok-check.ensures d meas c.in-Some.ensures.0
+    enough_free m (g.met.S.Scale.lawful b.scale) s b.table c.self.invariant.within c.self.invariant.stands e c.in_ok-check.ensures.0 d meas c.in-Some.ensures.0
 
 pub invariant_of-self : goal.invariant_of-self
 invariant_of-self g c =
@@ -60,7 +60,7 @@ returns-in-Some-clause-answer g c =
     rw (← c.self.view_is) (
       c.if-multipliers-lt64.false,
       accepted (g.S.Scale.meaning b.scale) (g.met.S.Scale.lawful b.scale) (shape b.layout) b.table c.take_in.new.table
-          (equation c.args.tie.now) c.take_in.result ready.within ready.stands c.in_ok-check.ensures room c.take_in.ensures,
+          (equation c.args.tie.now) c.take_in.result ready.within ready.stands c.in_ok-check.ensures.0 room c.take_in.ensures,
     )
 
 pub returns-in-None-clause-answer : goal.returns-in-None-clause-answer
@@ -70,7 +70,7 @@ returns-in-None-clause-answer g c =
     let s = shape b.layout in
     let e = equation c.args.tie.now in
     let d = c.measure-measured.result in
-    let sound = c.in_ok-check.ensures in
+    let sound = c.in_ok-check.ensures.0 in
     let ready = c.self.invariant in
     let meas : Measures m s e (vec_items b.table.rows) d = rw (← c.deref.ensures.value) c.measure-measured.ensures in
     rw (← c.self.view_is) (
@@ -87,7 +87,7 @@ returns-in-None-clause-list g c =
     let ready = c.self.invariant in
     rw (← c.self.view_is) (
       shown (g.S.Scale.meaning b.scale) (g.met.S.Scale.lawful b.scale) (shape b.layout) b.table ready.within ready.stands e
-          c.refute.new.multipliers c.in_ok-check.ensures
+          c.refute.new.multipliers c.in_ok-check.ensures.0
           (omega (arith, ledger_length b.table, c.len.ensures, c.if-len-ge64.false, c.refute.auto.multipliers, c.if-multipliers-lt64.false)) c.refute.ensures.0,
       λ i h. c.refute.ensures.1 i (omega (arith, length-append (ledger b.table) (e ∷ []))),
     )
