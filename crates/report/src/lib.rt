@@ -12,7 +12,7 @@ use crate::posting::post_all;
 use book::Book;
 use scales::AnyScale;
 use std::alloc::Global;
-use tie_file::{parts, verify};
+use tie_file::verify;
 
 pub mod answer;
 pub mod fault;
@@ -25,11 +25,9 @@ mod settling;
 pub fn report(heap: Global, file: &[u8]) -> Result<Report, ReportFault>
     ensures { let f = file.now in MatchResult result (λ t. Openable f × Reported (scale_of f) (file_shape f) (equations f) t) (ReportStopped f) }
 {
-    let ties = verify(file)?;
-    let Some(stated) = parts::layout_in(file) else {
-        return unreachable();
-    };
+    let whole = verify(file)?;
+    let stated = whole.layout();
     let scale = AnyScale::from_mark(stated.mark)?;
     let mut book = Book::new(heap, scale, stated.heads, stated.widths)?;
-    Ok(post_all(&mut book, file, ties))
+    Ok(post_all(&mut book, &whole))
 }
