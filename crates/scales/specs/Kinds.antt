@@ -44,6 +44,10 @@ Numbers k = (1 ≤ k.length) × (k.length ≤ longest k.kind k.base)
 abbrev pub named : Mark → Meaning
 named k = cond (k.kind == number Disc) (renumbered gray (ungray k.length) (counting k)) (counting k)
 
+-- what a constructor answers: the scale that the mark names, and a fault exactly where its numbers are wrong
+abbrev pub Makes : {S : Type 0} → (S → Meaning) → Mark → Result S ScaleFault → Type 0
+Makes meaning k r = MatchResult r (λ s. Numbers k × (meaning s ≡ named k)) (λ _. Numbers k → ⊥)
+
 -- the marks of each kind
 abbrev pub binary_mark : ℕ → Mark
 binary_mark length = record { kind = number Binary; base = 2; length = length }
