@@ -8,6 +8,7 @@ use Rattle.scales.specs.declared.kind.Kind.TheVariants.{Binary, Prime, Disc}
 use Rattle.scales.specs.Counting.{counting}
 use Rattle.scales.specs.Numbering.{renumbered, gray, ungray}
 
+-- the number that a mark has for each kind
 abbrev pub number : Kind → ℕ
 number Binary = 1
 number Prime = 2
