@@ -3,8 +3,9 @@
 #![tactic(auto)]
 
 ghost use Rattle.std.specs.Prelude.{◌≡◌, MatchResult};
-ghost use Rattle.report.specs.Reported.{Openable, ReportStopped, Reported, scale_of};
-ghost use Rattle.tie_file.specs.Bodies.{equations, file_shape};
+ghost use Rattle.report.specs.Reported.{Openable, ReportStopped, Reported};
+ghost use Rattle.scales.specs.Kinds.{named};
+ghost use Rattle.tie_file.specs.Bodies.{equations, file_mark, file_shape};
 
 use crate::answer::Report;
 use crate::fault::ReportFault;
@@ -23,7 +24,7 @@ mod settling;
 // How many ties of the file stand, by the scale of the file's mark, how many digits they leave free, where and why
 // posting stopped, and how many digits of each counter's code are settled.
 pub fn report(heap: Global, file: &[u8]) -> Result<Report, ReportFault>
-    ensures { let f = file.now in MatchResult result (λ t. Openable f × Reported (scale_of f) (file_shape f) (equations f) t) (ReportStopped f) }
+    ensures { let f = file.now in MatchResult result (λ t. Openable f × Reported (named (file_mark f)) (file_shape f) (equations f) t) (ReportStopped f) }
 {
     let whole = verify(file)?;
     let stated = whole.layout();
