@@ -10,4 +10,3 @@ mod Returning
 mod Sheeted
 mod Spots
 mod Steps
-mod Taken

@@ -11,12 +11,12 @@ use Rattle.book.specs.Standing.{equation_of}
 
 -- the product of a row with the pivot of a standing tie
 abbrev pub against : Meaning → Shape → List ℕ → Standing → ℕ
-against m s r t = summed m (places s) (λ j. m.product (slice_index r j) (slice_index t.row j))
+against m s r t = summed m (places s) (λ j. m.product (slice_index r j) (slice_index t.pivot.row.items j))
 
 -- a multiple of a standing tie is added, so that the row cancels on its pivot
 pub record Settled (m : Meaning) (s : Shape) (t : Standing) (old new : List ℕ) (multiplier : ℕ) : Type 0 where
   pub quotient : ℕ
-  pub divides : Quotient m (against m s old t) t.divisor quotient
+  pub divides : Quotient m (against m s old t) t.pivot.divisor quotient
   pub is : multiplier ≡ m.negative quotient
   pub codes : Codes m new
   pub added :

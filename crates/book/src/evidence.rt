@@ -5,12 +5,13 @@ ghost use Rattle.book.specs.Evidence.{Settled, against};
 ghost use Rattle.book.specs.Measures.{Measures};
 ghost use Rattle.book.specs.Rows.{Codes, Keeps};
 ghost use Rattle.book.specs.Standing.{Stands, equation_of, ledger};
+ghost use Rattle.book.specs.Turning.{Formed};
 ghost use Rattle.multipliers.specs.Refuting.{Refutes, factor_at};
 ghost use Rattle.multipliers.specs.Totals.{Shares};
 ghost use Rattle.scale.specs.Meaning.{Code, summed};
 ghost use Rattle.ties.specs.Equations.{equation, term_at};
 ghost use Rattle.ties.specs.Faults.{Exists, Passes, Sound};
-ghost use Rattle.ties.specs.Layouts.{Within, shape};
+ghost use Rattle.ties.specs.Layouts.{Within, places, shape};
 
 use crate::dividing::quotient_of;
 use crate::measured::Measured;
@@ -21,15 +22,15 @@ use scale::{Scale, step_power};
 use ties::layout::Layout;
 use ties::tie::{Term, Tie};
 
-// The product of two rows.
-fn dot<S: Scale>(scale: &S, a: &[u32], b: &[u32], n: usize) -> u32
+// The product of two rows, of which the second may be shorter.
+fn dot<S: Scale>(scale: &S, a: &[u32], b: &[u32]) -> u32
     requires codes { Codes (S.Scale.meaning scale.now) a.now × Codes (S.Scale.meaning scale.now) b.now }
-    requires inside { (n ≤ length a.now) × (n ≤ length b.now) }
-    ensures { let m = S.Scale.meaning scale.now in Code m result × (result ≡ summed m n (λ j. m.product (slice_index a.now j) (slice_index b.now j))) }
+    requires long { length b.now ≤ length a.now }
+    ensures { let m = S.Scale.meaning scale.now in Code m result × (result ≡ summed m (length b.now) (λ j. m.product (slice_index a.now j) (slice_index b.now j))) }
 {
     let mut total = 0;
-    for j in 0..n {
-        total = scale.sum(total, scale.product(a[j], b[j]));
+    for (x, y) in a.iter().zip(b) {
+        total = scale.sum(total, scale.product(*x, *y));
     }
     total
 }
@@ -53,19 +54,17 @@ fn add_terms<S: Scale>(scale: &S, layout: &Layout, by: u32, terms: &[Term], row:
 // Adds the multiple of a standing tie that cancels the row on the tie's pivot, and answers the multiplier.
 fn settle<S: Scale>(scale: &S, layout: &Layout, standing: &Standing, row: &mut [u32]) -> u32
     requires sound { Sound (S.Scale.meaning scale.now) (shape layout.now) (equation_of standing.now) }
-    requires codes { Codes (S.Scale.meaning scale.now) row.old × Codes (S.Scale.meaning scale.now) standing.now.row × Code (S.Scale.meaning scale.now) standing.now.divisor }
+    requires formed { Formed (S.Scale.meaning scale.now) (places (shape layout.now)) standing.now.pivot }
+    requires codes { Codes (S.Scale.meaning scale.now) row.old }
     requires room { length row.old ≡ 32 }
-    requires divides { (S.Scale.meaning scale.now).level standing.now.divisor ≤ (S.Scale.meaning scale.now).level (against (S.Scale.meaning scale.now) (shape layout.now) row.old standing.now) }
+    requires divides { (S.Scale.meaning scale.now).level standing.now.pivot.divisor ≤ (S.Scale.meaning scale.now).level (against (S.Scale.meaning scale.now) (shape layout.now) row.old standing.now) }
     ensures { Settled (S.Scale.meaning scale.now) (shape layout.now) standing.now row.old row.new result }
 {
-    let product = dot(scale, row, &standing.row, layout.places());
-    let Some(quotient) = quotient_of(scale, product, standing.divisor) else {
-        return unreachable();
-    };
+    let product = dot(scale, row, &standing.pivot.row);
+    let quotient = quotient_of(scale, product, standing.pivot.divisor).unwrap();
     let multiplier = scale.negative(quotient);
     let by = scale.product(multiplier, raise_to(scale, layout, standing.target));
-    let count = standing.count;
-    add_terms(scale, layout, by, &standing.terms[..count], row);
+    add_terms(scale, layout, by, &standing.terms, row);
     multiplier
 }
 
@@ -82,13 +81,12 @@ pub fn refute<S: Scale>(
     requires sound { Sound (S.Scale.meaning scale.now) (shape layout.now) (equation tie.now) }
     requires stands { Stands (S.Scale.meaning scale.now) (shape layout.now) table.now }
     requires measures { Measures (S.Scale.meaning scale.now) (shape layout.now) (equation tie.now) table.now.rows.items measured.now }
-    requires short { (S.Scale.meaning scale.now).level measured.now.rest < (S.Scale.meaning scale.now).level (slice_index measured.now.products measured.now.pivot) }
+    requires short { (S.Scale.meaning scale.now).level measured.now.rest < (S.Scale.meaning scale.now).level measured.now.pivot.divisor }
     requires room { vec_len table.now.standing < length multipliers.old }
     ensures { let m = S.Scale.meaning scale.now in let s = shape layout.now in let es = ledger table.now ++ (equation tie.now ∷ []) in Refutes m s es multipliers.new × Keeps (length es) multipliers.old multipliers.new }
 {
     let count = table.standing.len();
-    let level = scale.level(measured.products[measured.pivot]);
-    let lead = step_power(scale, scale.mark().length - level);
+    let lead = step_power(scale, measured.pivot.fixed(scale));
     let by = scale.product(lead, raise_to(scale, layout, tie.target));
     let mut row = [0; 32];
     add_terms(scale, layout, by, tie.terms, &mut row);

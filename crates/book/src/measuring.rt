@@ -9,9 +9,11 @@ ghost use Rattle.ties.specs.Equations.{equation, term_at, total};
 ghost use Rattle.ties.specs.Faults.{Exists, Passes, Sound};
 ghost use Rattle.ties.specs.Layouts.{places, shape, width_of};
 
-use crate::dividing::{divide_before, scan};
+use crate::dividing::{divide, lowest};
 use crate::measured::Measured;
+use crate::pivot::Pivot;
 use crate::rows::total_at;
+use arrayvec::ArrayVec;
 use scale::{Scale, step_power};
 use ties::layout::Layout;
 use ties::tie::{Term, Tie};
@@ -33,23 +35,26 @@ fn multiply_out<S: Scale>(
     terms: &[Term],
     raise: u32,
     rows: &[u32],
-    products: &mut [u32],
-)
+) -> ArrayVec<u32, 32>
     requires exist { Passes (Exists (shape layout.now) terms.now) (length terms.now) }
     requires factors { (i : ℕ) → i < length terms.now → Code (S.Scale.meaning scale.now) (term_at terms.now i).factor }
-    requires codes { Codes (S.Scale.meaning scale.now) rows.now × Codes (S.Scale.meaning scale.now) products.old × Code (S.Scale.meaning scale.now) raise }
-    requires inside { (length rows.now ≡ places (shape layout.now) + places (shape layout.now) * places (shape layout.now)) × (length products.old ≡ 32) }
-    ensures codes { Codes (S.Scale.meaning scale.now) products.new }
-    ensures products { let m = S.Scale.meaning scale.now in let s = shape layout.now in ((i : ℕ) → i < places s → slice_index products.new i ≡ m.product raise (total m terms.now (generator_of s rows.now i))) }
+    requires codes { Codes (S.Scale.meaning scale.now) rows.now × Code (S.Scale.meaning scale.now) raise }
+    requires size { length rows.now ≡ places (shape layout.now) + places (shape layout.now) * places (shape layout.now) }
+    ensures codes { Codes (S.Scale.meaning scale.now) result.items }
+    ensures count { length result.items ≡ places (shape layout.now) }
+    ensures products { let m = S.Scale.meaning scale.now in let s = shape layout.now in ((i : ℕ) → i < places s → slice_index result.items i ≡ m.product raise (total m terms.now (generator_of s rows.now i))) }
 {
     let n = layout.places();
+    let mut products = ArrayVec::new();
     for i in 0..n {
-        products[i] = scale.product(raise, total_at(scale, layout, terms, rows, n + i * n));
+        let at = n + i * n;
+        let total = total_at(scale, layout, terms, &rows[at..at + n]);
+        products.push(scale.product(raise, total));
     }
+    products
 }
 
-// The tie's raised products with the generators, a pivot that divides them, the quotients, and what is missing at
-// the point.
+// The pivot, and what is missing at the point.
 pub fn measure<S: Scale>(scale: &S, layout: &Layout, tie: &Tie, rows: &[u32]) -> Measured
     requires sound { Sound (S.Scale.meaning scale.now) (shape layout.now) (equation tie.now) }
     requires codes { Codes (S.Scale.meaning scale.now) rows.now }
@@ -58,17 +63,17 @@ pub fn measure<S: Scale>(scale: &S, layout: &Layout, tie: &Tie, rows: &[u32]) ->
 {
     let n = layout.places();
     let raise = raise_to(scale, layout, tie.target);
-    let mut products = [0; 32];
-    multiply_out(scale, layout, tie.terms, raise, rows, &mut products);
-    let mut quotients = [0; 32];
-    let pivot = scan(scale, &products, n, &mut quotients);
-    divide_before(scale, &products, n, pivot, &mut quotients);
-    let reached = scale.product(raise, total_at(scale, layout, tie.terms, rows, 0));
-    let rest = scale.sum(scale.product(raise, tie.right), scale.negative(reached));
+    let products = multiply_out(scale, layout, tie.terms, raise, rows);
+    let reached = scale.product(raise, total_at(scale, layout, tie.terms, &rows[..n]));
+    let number = lowest(scale, &products);
+    let at = n + number * n;
     Measured {
-        products,
-        quotients,
-        pivot,
-        rest,
+        pivot: Pivot {
+            number,
+            row: ArrayVec::try_from(&rows[at..at + n]).unwrap(),
+            divisor: products[number],
+            quotients: divide(scale, &products, number),
+        },
+        rest: scale.sum(scale.product(raise, tie.right), scale.negative(reached)),
     }
 }

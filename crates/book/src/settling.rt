@@ -22,8 +22,9 @@ pub fn settled_digits<S: Scale>(scale: &S, layout: &Layout, tie: &Tie, rows: &[u
     let n = layout.places();
     let mut settled = layout.width(tie.target);
     for i in 0..n {
-        let level = scale.level(total_at(scale, layout, tie.terms, rows, n + i * n));
-        settled = settled.min(level);
+        let at = n + i * n;
+        let total = total_at(scale, layout, tie.terms, &rows[at..at + n]);
+        settled = settled.min(scale.level(total));
     }
     settled
 }

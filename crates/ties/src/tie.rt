@@ -11,7 +11,7 @@ use crate::terms;
 use scale::Scale;
 
 // A factor at a counter of a head.
-#[derive(Clone, Copy, PartialEq, Eq, Debug)]
+#[derive(Clone, Copy, PartialEq, Eq, Debug, Default)]
 pub struct Term {
     pub head: u8,
     pub counter: u8,

@@ -29,14 +29,13 @@ impl<S: Scale> Book<S> {
             return Err(PostFault::Full);
         }
         let measured = measure(&self.scale, &self.layout, tie, &self.table.rows);
-        let divisor = measured.products[measured.pivot];
-        match quotient_of(&self.scale, measured.rest, divisor) {
+        match quotient_of(&self.scale, measured.rest, measured.pivot.divisor) {
             Some(shift) => Ok(take_in(
                 &self.scale,
                 &self.layout,
                 &mut self.table,
                 tie,
-                &measured,
+                measured,
                 shift,
             )),
             None => {

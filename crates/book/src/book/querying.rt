@@ -20,7 +20,8 @@ impl<S: Scale> Book<S> {
     {
         tie.check(&self.scale, &self.layout)?;
         let rows: &[u32] = &self.table.rows;
-        let total = total_at(&self.scale, &self.layout, tie.terms, rows, 0);
+        let point = &rows[..self.layout.places()];
+        let total = total_at(&self.scale, &self.layout, tie.terms, point);
         Ok(Reading {
             value: self.scale.sum(total, self.scale.negative(tie.right)),
             settled: settled_digits(&self.scale, &self.layout, tie, rows),

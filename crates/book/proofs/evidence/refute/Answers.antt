@@ -5,23 +5,18 @@ use Rattle.std.proofs.lemmas.List.{get_or_default}
 use Rattle.scale.specs.Meaning.{Code, digits, power}
 use Rattle.scale.proofs.Codes.{power_code}
 use Rattle.ties.specs.Equations.{depth, equation}
-use Rattle.ties.specs.Layouts.{shape}
-use Rattle.ties.proofs.Places.{layout_sized, places_most}
+use Rattle.ties.specs.Layouts.{places, shape}
 use Rattle.multipliers.proofs.Concluding.{zeros_read}
 use Rattle.book.specs.declared.standing.Standing.{Standing}
-use Rattle.book.specs.Rows.{Codes}
 use Rattle.book.specs.Standing.{equation_of, ledger, nobody, nth_standing, rest}
+use Rattle.book.specs.Turning.{Formed}
 use Rattle.book.specs.Evidence.{Settled, against}
 use Rattle.ties.specs.Faults.{Sound}
-use Rattle.book.proofs.Taken.{least}
+use Rattle.book.proofs.Choosing.{least}
 use Rattle.book.proofs.Posts.{stands_solved, stands_sound}
-use Rattle.book.proofs.Filling.{level_is, product_is, zeros_codes}
+use Rattle.book.proofs.Filling.{product_is, zeros_codes}
 use Rattle.book.proofs.Refuting.{Refuting, done, has_quotient, settles, start, step}
 use Rattle.book.proofs.evidence.refute.Goals as goal
-
-pub bounds-measured-measured : goal.bounds-measured-measured
-bounds-measured-measured g c =
-    omega (arith, c.requires.measures.divides.0, places_most (shape c.args.layout.now) (layout_sized c.args.layout.now))
 
 pub add_terms-requires : goal.add_terms-requires
 add_terms-requires g c =
@@ -53,15 +48,15 @@ loop-k-init g c =
     let e = equation c.args.tie.now in
     let ks = vec_items c.args.table.now.standing in
     let xs = vec_items c.args.table.now.rows in
-    let d = c.args.measured.now in
+    let pivots = c.requires.measures.pivots in
+    let p = c.args.measured.now.pivot in
     let ys = c.args.multipliers.now in
     let lead = c.step_power-lead.result in
     let count : c.len-count.result ≡ length ks = c.len-count.ensures ∙ c.args.table.now.standing.ok.0 in
     let room : c.len-count.result < length ys = omega (arith, c.len-count.ensures, c.requires.room) in
-    let v = m.level (get_or d.products d.pivot 0) in
-    let level : c.level-level.result ≡ v = level_is m l _ _ (c.requires.measures.codes d.pivot) c.level-level.ensures in
+    let v = m.level p.divisor in
     let lead_is : lead ≡ power m (digits m - v) =
-    c.step_power-lead.ensures ∙ ap (power m) (ap₂ (λ a b. a - b) (ap (λ k. k.length) c.mark.ensures) level)
+    c.step_power-lead.ensures ∙ ap (power m) c.fixed.ensures
     in
     let set_there : get_or (set ys c.len-count.result lead) c.len-count.result 0 ≡ lead =
     get_or-set_same ys c.len-count.result lead 0 room
@@ -70,10 +65,9 @@ loop-k-init g c =
     let raise_code : Code m c.raise_to.result = subst (Code m) (sym c.raise_to.ensures) (power_code m l _) in
     let by = (product_is m l lead c.raise_to.result c.product-by.result lead_code raise_code c.product-by.ensures).1 in
     let begun : Refuting m l s ks e (length ks) (set ys c.len-count.result lead) c.add_terms.new.row =
-    start m l s ks e xs c.args.table.now.free d.pivot v c.product-by.result (replicate 32 0)
+    start m l s ks e xs c.args.table.now.free p.number v c.product-by.result (replicate 32 0)
     (set ys c.len-count.result lead) c.add_terms.new.row c.requires.stands c.requires.sound
-    (ap m.level (sym (c.requires.measures.products d.pivot c.requires.measures.divides.0)))
-    (λ i h. least m l s e xs d c.requires.measures i h)
+    (ap m.level (sym pivots.divisor)) (least m l s e xs p pivots)
     (ap (λ i. get_or (set ys c.len-count.result lead) i 0) (sym count) ∙ set_there ∙ lead_is)
     (by ∙ ap₂ m.product lead_is c.raise_to.ensures)
     (zeros_read 32) c.add_terms.ensures.codes c.add_terms.ensures.added
@@ -101,8 +95,8 @@ settle-requires g c =
     in
     let P : Standing → Type 0 =
     λ t.
-    (Sound m s (equation_of t) × Codes m t.row × Code m t.divisor)
-    × (m.level t.divisor ≤ m.level (against m s c.loop-k.row t))
+    (Sound m s (equation_of t) × Formed m (places s) t.pivot)
+    × (m.level t.pivot.divisor ≤ m.level (against m s c.loop-k.row t))
     in
     let here = subst P (sym at) (
       settles m l s ks e (k - 1) c.loop-k.multipliers c.loop-k.row so_far,
@@ -110,7 +104,8 @@ settle-requires g c =
     ) in
     record {
       sound = here.0.0;
-      codes = (so_far.codes, here.0.1, here.0.2);
+      formed = here.0.1;
+      codes = so_far.codes;
       room = c.loop-k.invariant.1;
       divides = here.1;
     }
@@ -157,19 +152,19 @@ returns g c =
     let table = c.args.table.now in
     let ks = vec_items table.standing in
     let xs = vec_items table.rows in
-    let d = c.args.measured.now in
+    let pivots = c.requires.measures.pivots in
+    let p = c.args.measured.now.pivot in
     let ys = c.loop-k.multipliers in
     let count : c.len-count.result ≡ length ks = c.len-count.ensures ∙ table.standing.ok.0 in
-    let v = m.level (get_or d.products d.pivot 0) in
+    let v = m.level p.divisor in
     let none : c.loop-k.k ≡ 0 = omega (arith, c.loop-k-test.false) in
     let ended = subst (λ (n : ℕ). Refuting m l s ks e n ys c.loop-k.row) none c.loop-k.invariant.0 in
-    let level : c.level-level.result ≡ v = level_is m l _ _ (c.requires.measures.codes d.pivot) c.level-level.ensures in
     let lead_is : c.step_power-lead.result ≡ power m (digits m - v) =
-    c.step_power-lead.ensures ∙ ap (power m) (ap₂ (λ a b. a - b) (ap (λ k. k.length) c.mark.ensures) level)
+    c.step_power-lead.ensures ∙ ap (power m) c.fixed.ensures
     in
     let sounds = All-push (Sound m s) (ledger table) e (stands_sound m l s table c.requires.within c.requires.stands) c.requires.sound in
     let solves = stands_solved m l s table c.requires.within c.requires.stands in
-    let most = l.level_most (get_or d.products d.pivot 0) (c.requires.measures.codes d.pivot) in
+    let most = l.level_most p.divisor pivots.formed.divisor in
     let short : m.level (rest m s e xs) < v = subst (λ (a : ℕ). m.level a < v) c.requires.measures.missing c.requires.short in
     let longer : length (map equation_of ks ++ (e ∷ [])) ≡ suc (length ks) = omega (arith, length-append (map equation_of ks) (e ∷ []), length-map ks equation_of) in (
       done m l s ks e xs ys c.loop-k.row c.requires.within sounds solves ended v

@@ -1,4 +1,4 @@
-use Rattle.std.proofs.Common.{◌≡◌, ℕ, ◌<◌, get_or}
+use Rattle.std.proofs.Common.{◌≡◌, ℕ, ◌<◌, length, get_or}
 use Rattle.ties.specs.Equations.{total}
 use Rattle.ties.specs.Layouts.{shape}
 use Rattle.book.specs.Rows.{Codes}
@@ -8,9 +8,11 @@ use Rattle.book.proofs.measuring.multiply_out.Given as goal
 abbrev pub invariant-loop-i : goal.invariant-loop-i
 invariant-loop-i g l =
     let m = g.S.Scale.meaning l.scale in
-    Codes m l.products
+    let products = l.products.items in
+    (length products ≡ l.i)
+    × Codes m products
     × (
     (i : ℕ)
     → i < l.i
-    → get_or l.products i 0 ≡ m.product l.raise (total m l.terms (generator_of (shape l.layout) l.rows i))
+    → get_or products i 0 ≡ m.product l.raise (total m l.terms (generator_of (shape l.layout) l.rows i))
     )

@@ -2,7 +2,7 @@ use Rattle.std.proofs.Common.{◌≡◌}
 use Rattle.scale.specs.Meaning.{Code, summed}
 use Rattle.ties.specs.Equations.{code_at, term_at}
 use Rattle.ties.specs.Layouts.{shape}
-use Rattle.book.specs.Rows.{row_at}
+use Rattle.book.specs.Rows.{row_of}
 use Rattle.book.proofs.rows.total_at.Given as goal
 
 abbrev pub invariant-loop-term : goal.invariant-loop-term
@@ -12,5 +12,5 @@ invariant-loop-term g l =
     × (
     l.total
     ≡ summed m l.term-index
-    (λ i. m.product (term_at l.terms i).factor (code_at (row_at (shape l.layout) l.rows l.at) (term_at l.terms i)))
+    (λ i. m.product (term_at l.terms i).factor (code_at (row_of (shape l.layout) l.row) (term_at l.terms i)))
     )

@@ -3,7 +3,6 @@ use lib.ListN.{length-map}
 use Rattle.scale.specs.Meaning.{Code}
 use Rattle.ties.specs.Equations.{equation}
 use Rattle.ties.specs.Layouts.{places, shape}
-use Rattle.ties.proofs.Places.{layout_sized, places_most}
 use Rattle.book.specs.declared.table.Table.{Table}
 use Rattle.book.specs.Measures.{Measures}
 use Rattle.book.specs.Standing.{equation_of, ledger, rest}
@@ -36,11 +35,6 @@ measure-measured-requires g c =
     let here = subst P (sym c.deref.ensures.value) stands in
     record { sound = c.in_ok-check.ensures; codes = here.0; size = here.1 }
 
-pub bounds-measured-measured : goal.bounds-measured-measured
-bounds-measured-measured g c =
-    let layout = c.args.self.now.layout in
-    omega (arith, c.measure-measured.ensures.divides.0, places_most (shape layout) (layout_sized layout))
-
 pub quotient_of-requires : goal.quotient_of-requires
 quotient_of-requires g c =
     let b = c.args.self.now in
@@ -54,7 +48,7 @@ quotient_of-requires g c =
     subst (Code m) (sym (meas.missing ∙ ap (λ xs. rest m s e xs) c.deref.ensures.value))
     (rest_code m l s e c.in_ok-check.ensures (vec_items b.table.rows) codes)
     in
-    (rest, meas.codes c.measure-measured.result.pivot)
+    (rest, meas.pivots.formed.divisor)
 
 pub take_in-requires : goal.take_in-requires
 take_in-requires g c =
