@@ -1,5 +1,6 @@
 -- The check by a file's own mark.
 use Rattle.std.specs.Prelude.{ℕ, List, None, Option}
+use Rattle.refusals.specs.declared.Refusal.{Refusal}
 use Rattle.refusals.specs.Numbers.{number}
 use Rattle.scale.specs.Meaning.{Meaning}
 use Rattle.scales.specs.Faults.{refused}
@@ -12,10 +13,13 @@ use Rattle.multipliers.specs.Checked.{Stopped, check_place, check_refusal, check
 use Rattle.marked_check.specs.declared.fault.MarkedFault.{MarkedFault}
 use Rattle.marked_check.specs.declared.fault.MarkedFault.TheVariants.{Scale, Check}
 
--- the number of each fault's refusal, of its tie, and the place of its term
+-- each fault's refusal and its number, the number of its tie, and the place of its term
+abbrev pub marked_refusal : MarkedFault → Refusal
+marked_refusal (Scale f) = refused f
+marked_refusal (Check f) = check_refusal f
+
 abbrev pub marked_number : MarkedFault → ℕ
-marked_number (Scale f) = number (refused f)
-marked_number (Check f) = number (check_refusal f)
+marked_number f = number (marked_refusal f)
 
 abbrev pub marked_tie : MarkedFault → Option ℕ
 marked_tie (Scale f) = None

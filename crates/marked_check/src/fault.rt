@@ -2,10 +2,11 @@
 
 ghost use Rattle.std.specs.Prelude.{◌≡◌};
 ghost use Rattle.marked_check.specs.declared.fault.MarkedFault.TheVariants.{Check as OfCheck, Scale as OfScale};
-ghost use Rattle.marked_check.specs.Marked.{marked_number, marked_place, marked_tie};
+ghost use Rattle.marked_check.specs.Marked.{marked_place, marked_refusal, marked_tie};
 ghost use Rattle.multipliers.specs.declared.fault.CheckFault.TheVariants.{File as OfFile};
 
 use multipliers::fault::CheckFault;
+use refusals::Refusal;
 use scales::ScaleFault;
 use tie_file::fault::FileFault;
 
@@ -17,16 +18,6 @@ pub enum MarkedFault {
 }
 
 impl MarkedFault {
-    // The number of the refusal.
-    pub fn number(self) -> u8
-        ensures { result ≡ marked_number self }
-    {
-        match self {
-            MarkedFault::Scale(fault) => fault.refusal().number(),
-            MarkedFault::Check(fault) => fault.refusal().number(),
-        }
-    }
-
     // The number of the tie at fault, where it is a tie's.
     pub fn tie(self) -> Option<usize>
         ensures { result ≡ marked_tie self }
@@ -44,6 +35,17 @@ impl MarkedFault {
         match self {
             MarkedFault::Scale(_) => None,
             MarkedFault::Check(fault) => fault.place(),
+        }
+    }
+}
+
+impl From<MarkedFault> for Refusal {
+    ghost from_gives = { λ f r. r ≡ marked_refusal f };
+
+    fn from(fault: MarkedFault) -> Refusal {
+        match fault {
+            MarkedFault::Scale(fault) => fault.into(),
+            MarkedFault::Check(fault) => fault.into(),
         }
     }
 }

@@ -13,7 +13,7 @@ ghost use Rattle.ties.specs.Equations.{Contradictory};
 use crate::fault::MarkedFault;
 use multipliers::check;
 use scales::AnyScale;
-use tie_file::{parts, verify};
+use tie_file::verify;
 
 pub mod fault;
 pub mod line;
@@ -23,10 +23,7 @@ pub fn check_marked(file: &[u8], multipliers: &[u32]) -> Result<bool, MarkedFaul
     ensures answer { let f = file.now in let ys = multipliers.now in MatchResult result (λ yes. Numbers (file_mark f) × Checkable (scale_of f) f ys × Decides yes (Refutes (scale_of f) (file_shape f) (equations f) ys)) (MarkedStopped f ys) }
     ensures trusted { let f = file.now in IfOk result (λ yes. yes ≡ true → Contradictory (scale_of f) (file_shape f) (equations f)) }
 {
-    verify(file)?;
-    let Some(stated) = parts::layout_in(file) else {
-        return unreachable();
-    };
-    let scale = AnyScale::from_mark(stated.mark)?;
+    let mark = verify(file)?.layout().mark;
+    let scale = AnyScale::from_mark(mark)?;
     Ok(check(&scale, file, multipliers)?)
 }

@@ -4,6 +4,7 @@ ghost use Rattle.std.specs.Prelude.{Some};
 ghost use Rattle.marked_check.specs.Printed.{printed};
 
 use crate::fault::MarkedFault;
+use refusals::Refusal;
 use std::fmt;
 
 #[derive(Drop)]
@@ -18,7 +19,7 @@ impl fmt::Display for Line {
             Ok(false) => return write!(f, "no"),
             Err(fault) => fault,
         };
-        let number = fault.number();
+        let number = u8::from(Refusal::from(fault));
         match (fault.tie(), fault.place()) {
             (Some(tie), Some(place)) => write!(f, "refused {number} {tie} {place}"),
             (Some(tie), None) => write!(f, "refused {number} {tie}"),

@@ -1,5 +1,6 @@
 use crate::files::*;
 use multipliers::check as check_multipliers;
+use refusals::Refusal;
 use scales::Prime;
 use std::test::Fail;
 
@@ -110,7 +111,7 @@ fn another_scale(rt: HostRuntime) -> Result<(), Fail> {
     match check_multipliers(&scale, &TWO_TIES, &[2, 7]) {
         Ok(_) => Err(Fail::new("the mark is another")),
         Err(fault) => {
-            assert_eq!(rt; fault.refusal().number(), 7);
+            assert_eq!(rt; u8::from(Refusal::from(fault)), 7);
             Ok(())
         },
     }

@@ -1,4 +1,4 @@
-pub mod Adding
+pub mod Growing
 pub mod Concluding
 mod Pairing
 pub mod Trusted

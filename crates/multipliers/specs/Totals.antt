@@ -1,5 +1,5 @@
 -- Totals, one for each counter in the order head, then counter.
-use Rattle.std.specs.Prelude.{◌≡◌, ℕ, List, length, replicate, ◌≢◌, slice_index}
+use Rattle.std.specs.Prelude.{◌≡◌, ℕ, List, length, replicate, ◌≢◌, slice_index, refl}
 use Rattle.scale.specs.Meaning.{Meaning, Code, summed}
 use Rattle.ties.specs.Layouts.{Shape, Has, place}
 use Rattle.ties.specs.Equations.{Equation}
@@ -17,7 +17,7 @@ Shares m s share old new =
 
 -- no tie is added yet
 abbrev pub nothing : Totals
-nothing = record { counters = replicate 32 0; right = 0 }
+nothing = record { counters = replicate 32 0; right = 0; all = refl }
 
 abbrev pub AllCodes : Meaning → Totals → Type 0
 AllCodes m t = (length t.counters ≡ 32) × Codes m t.counters × Code m t.right

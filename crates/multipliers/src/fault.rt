@@ -21,18 +21,6 @@ pub enum CheckFault {
 }
 
 impl CheckFault {
-    pub fn refusal(self) -> Refusal
-        ensures { result ≡ check_refusal self }
-    {
-        match self {
-            CheckFault::File(fault) => fault.refusal(),
-            CheckFault::Layout(fault) => fault.refusal(),
-            CheckFault::Mark => Refusal::Mark,
-            CheckFault::List => Refusal::List,
-            CheckFault::Tie(_, fault) => fault.refusal(),
-        }
-    }
-
     // The number of the tie at fault, where it is a tie's.
     pub fn tie(self) -> Option<usize>
         ensures { result ≡ check_tie self }
@@ -50,6 +38,20 @@ impl CheckFault {
         match self {
             CheckFault::Tie(_, fault) => fault.place(),
             _ => None,
+        }
+    }
+}
+
+impl From<CheckFault> for Refusal {
+    ghost from_gives = { λ f r. r ≡ check_refusal f };
+
+    fn from(fault: CheckFault) -> Refusal {
+        match fault {
+            CheckFault::File(fault) => fault.into(),
+            CheckFault::Layout(fault) => fault.into(),
+            CheckFault::Mark => Refusal::Mark,
+            CheckFault::List => Refusal::List,
+            CheckFault::Tie(_, fault) => fault.into(),
         }
     }
 }

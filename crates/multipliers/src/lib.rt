@@ -10,10 +10,11 @@ ghost use Rattle.ties.specs.Equations.{Contradictory};
 
 use crate::fault::CheckFault;
 use crate::reading::{add_nth, layout_in};
-use crate::totals::{contradict, no_totals};
+use crate::totals::Totals;
 use scale::Scale;
 use tie_file::verify;
 
+pub mod adding;
 pub mod fault;
 mod reading;
 mod totals;
@@ -23,14 +24,15 @@ pub fn check<S: Scale>(scale: &S, file: &[u8], multipliers: &[u32]) -> Result<bo
     ensures answer { let m = S.Scale.meaning scale.now in let f = file.now in let ys = multipliers.now in MatchResult result (λ yes. Checkable m f ys × Decides yes (Refutes m (file_shape f) (equations f) ys)) (Stopped m f ys) }
     ensures trusted { let m = S.Scale.meaning scale.now in let f = file.now in IfOk result (λ yes. yes ≡ true → Contradictory m (file_shape f) (equations f)) }
 {
-    let ties = verify(file)?;
-    let layout = layout_in(scale, file)?;
+    let whole = verify(file)?;
+    let layout = layout_in(scale, &whole)?;
+    let ties = whole.ties();
     if multipliers.len() < ties {
         return Err(CheckFault::List);
     }
-    let mut totals = no_totals();
-    for i in 0..ties {
-        add_nth(scale, &layout, file, i, multipliers[i], &mut totals)?;
+    let mut totals = Totals::new();
+    for (i, multiplier) in multipliers[..ties].iter().enumerate() {
+        add_nth(scale, &layout, &whole, i, *multiplier, &mut totals)?;
     }
-    Ok(contradict(&layout, &totals))
+    Ok(totals.contradict(&layout))
 }

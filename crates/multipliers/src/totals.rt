@@ -1,78 +1,54 @@
 // The weighed ties added up: a total for each counter, and one for the right sides.
 
-ghost use Rattle.std.specs.Prelude.{◌≡◌, ℕ, ◌<◌, length, Decides};
-ghost use Rattle.multipliers.specs.Refuting.{factor_at};
-ghost use Rattle.multipliers.specs.Totals.{Added, AllCodes, Codes, Contradict, Shares, nothing};
-ghost use Rattle.scale.specs.Meaning.{Code};
-ghost use Rattle.ties.specs.Equations.{equation, term_at};
-ghost use Rattle.ties.specs.Faults.{Exists, Passes, Sound};
+ghost use Rattle.std.specs.Prelude.{◌≡◌, length, Decides};
+ghost use Rattle.ties.specs.Equations.{equation};
 ghost use Rattle.ties.specs.Layouts.{shape};
 
-use scale::{Scale, step_power};
+use crate::adding::add_terms;
+use scale::Scale;
 use ties::layout::Layout;
-use ties::tie::{Term, Tie};
+use ties::sound::SoundTie;
 
 #[derive(Clone, Copy)]
 pub struct Totals {
     counters: [u32; 32],
     right: u32,
+    ghost all: { length counters ≡ 32 },
 }
 
-// Before any tie is added, each total is 0.
-pub fn no_totals() -> Totals
-    ensures { result ≡ nothing }
-{
-    Totals {
-        counters: [0; 32],
-        right: 0,
-    }
-}
+impl Totals {
+    ghost use Rattle.multipliers.specs.Totals.{Added, AllCodes, Contradict, nothing};
 
-// Adds a sound tie, raised to full length and multiplied.
-pub fn add_tie<S: Scale>(
-    scale: &S,
-    layout: &Layout,
-    tie: &Tie,
-    multiplier: u32,
-    totals: &mut Totals,
-)
-    requires sound { Sound (S.Scale.meaning scale.now) (shape layout.now) (equation tie.now) }
-    requires codes { AllCodes (S.Scale.meaning scale.now) totals.old }
-    ensures codes { AllCodes (S.Scale.meaning scale.now) totals.new }
-    ensures added { let m = S.Scale.meaning scale.now in Added m (shape layout.now) (equation tie.now) multiplier totals.old totals.new }
-{
-    let depth = layout.width(tie.target);
-    let raise = step_power(scale, scale.mark().length.saturating_sub(depth));
-    let by = scale.product(multiplier, raise);
-    add_terms(scale, layout, by, tie.terms, &mut totals.counters);
-    totals.right = scale.sum(totals.right, scale.product(by, tie.right));
-}
-
-// Adds `by` times each factor to the total of its counter.
-fn add_terms<S: Scale>(scale: &S, layout: &Layout, by: u32, terms: &[Term], totals: &mut [u32])
-    requires by_code { Code (S.Scale.meaning scale.now) by }
-    requires exist { Passes (Exists (shape layout.now) terms.now) (length terms.now) }
-    requires factors { (i : ℕ) → i < length terms.now → Code (S.Scale.meaning scale.now) (term_at terms.now i).factor }
-    requires room { length totals.old ≡ 32 }
-    requires codes { Codes (S.Scale.meaning scale.now) totals.old }
-    ensures codes { Codes (S.Scale.meaning scale.now) totals.new }
-    ensures added { let m = S.Scale.meaning scale.now in Shares m (shape layout.now) (λ h c. m.product by (factor_at m terms.now h c)) totals.old totals.new }
-{
-    for term in terms {
-        let at = layout.place(term.head, term.counter);
-        totals[at] = scale.sum(totals[at], scale.product(by, term.factor));
-    }
-}
-
-// Whether every counter's total is 0 and that of the right sides is not.
-pub fn contradict(layout: &Layout, totals: &Totals) -> bool
-    requires { length totals.now.counters ≡ 32 }
-    ensures { Decides result (Contradict (shape layout.now) totals.now) }
-{
-    for i in 0..layout.places() {
-        if totals.counters[i] != 0 {
-            return false;
+    // Before any tie is added, each total is 0.
+    pub fn new() -> Totals
+        ensures { result ≡ nothing }
+    {
+        Totals {
+            counters: [0; 32],
+            right: 0,
         }
     }
-    totals.right != 0
+
+    // Adds a tie, raised to full length and multiplied.
+    pub fn add<S: Scale>(&mut self, tie: &SoundTie<S>, multiplier: u32)
+        requires { AllCodes (S.Scale.meaning tie.now.scale.now) self.old }
+        ensures codes { AllCodes (S.Scale.meaning tie.now.scale.now) self.new }
+        ensures added { let m = S.Scale.meaning tie.now.scale.now in Added m (shape tie.now.layout.now) (equation tie.now.tie) multiplier self.old self.new }
+    {
+        let by = tie.scale.product(multiplier, tie.raise());
+        add_terms(tie, by, &mut self.counters);
+        self.right = tie
+            .scale
+            .sum(self.right, tie.scale.product(by, tie.tie.right));
+    }
+
+    // Whether every counter's total is 0 and that of the right sides is not.
+    pub fn contradict(&self, layout: &Layout) -> bool
+        ensures { Decides result (Contradict (shape layout.now) self.now) }
+    {
+        self.counters[..layout.places()]
+            .iter()
+            .all(|total| *total == 0)
+            && self.right != 0
+    }
 }

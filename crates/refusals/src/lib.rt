@@ -41,10 +41,10 @@ pub enum Refusal {
     Nothing = 16,
 }
 
-impl Refusal {
-    pub fn number(self) -> u8
-        ensures { result ≡ numbered self }
-    {
-        self as u8
+impl From<Refusal> for u8 {
+    ghost from_gives = { λ r n. n ≡ numbered r };
+
+    fn from(refusal: Refusal) -> u8 {
+        refusal as u8
     }
 }

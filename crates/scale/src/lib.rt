@@ -58,9 +58,5 @@ pub fn step_power<S: Scale>(scale: &S, k: u8) -> u32
     ensures { result ≡ power (S.Scale.meaning scale.now) k }
 {
     let step = scale.step();
-    let mut result = scale.one();
-    for _ in 0..k {
-        result = scale.product(step, result);
-    }
-    result
+    (0..k).fold(scale.one(), |power, _| scale.product(step, power))
 }

@@ -1,1 +1,2 @@
+pub mod OddBases
 pub mod Twos

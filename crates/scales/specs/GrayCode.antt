@@ -10,9 +10,6 @@ use Rattle.scales.specs.Numbering.{gray, ungray}
 half_below : (k c : ℕ) → c < 2 ^ suc k → c / 2 < 2 ^ k
 half_below k c h = (div-lt_iff_lt-mul (omega arith)).1 (subst (λ (x : ℕ). c < x) (pow-suc 2 k) h)
 
-half_xor : (a b : ℕ) → bit_xor a b / 2 ≡ bit_xor (a / 2) (b / 2)
-half_xor a b = xor_shr a b 1
-
 -- one digit more changes nothing
 pub ungray_more : (k c : ℕ) → c < 2 ^ k → ungray k c ≡ ungray (suc k) c
 unfolding ungray
@@ -39,7 +36,7 @@ ungray_xor : (k a b : ℕ) → ungray k (bit_xor a b) ≡ bit_xor (ungray k a) (
 unfolding ungray
 ungray_xor zero a b = refl
 ungray_xor (suc k) a b =
-    ap (bit_xor (bit_xor a b)) (ap (ungray k) (half_xor a b) ∙ ungray_xor k (a / 2) (b / 2))
+    ap (bit_xor (bit_xor a b)) (ap (ungray k) (xor_shr a b 1) ∙ ungray_xor k (a / 2) (b / 2))
     ∙ xor_swap a b (ungray k (a / 2)) (ungray k (b / 2))
   where
     xor_swap : (a b c d : ℕ) → bit_xor (bit_xor a b) (bit_xor c d) ≡ bit_xor (bit_xor a c) (bit_xor b d)
@@ -51,7 +48,7 @@ ungray_xor (suc k) a b =
 ungray_half : (k c : ℕ) → ungray k c / 2 ≡ ungray k (c / 2)
 unfolding ungray
 ungray_half zero c = refl
-ungray_half (suc k) c = half_xor c (ungray k (c / 2)) ∙ ap (bit_xor (c / 2)) (ungray_half k (c / 2))
+ungray_half (suc k) c = xor_shr c (ungray k (c / 2)) 1 ∙ ap (bit_xor (c / 2)) (ungray_half k (c / 2))
 
 twice_out : (a b : ℕ) → bit_xor (bit_xor a b) b ≡ a
 twice_out a b = xor_assoc a b b ∙ ap (bit_xor a) (xor_self b) ∙ xor_zero_r a
@@ -97,20 +94,7 @@ pub ungray_one : (c : ℕ) → ungray 1 c ≡ c
 unfolding ungray
 ungray_one c = xor_zero_r c
 
--- 32 digits in five steps
-pub ungray_32 :
-    (c : ℕ)
-    → let p₂ : ℕ = bit_xor c (c / 2) in
-    let p₄ : ℕ = bit_xor p₂ (p₂ / 4) in
-    let p₈ : ℕ = bit_xor p₄ (p₄ / 16) in
-    let p₁₆ : ℕ = bit_xor p₈ (p₈ / 256) in
-    bit_xor p₁₆ (p₁₆ / 65536) ≡ ungray 32 c
-ungray_32 c = step 16 (step 8 (step 4 (step 2 (step 1 (sym (ungray_one c))))))
-  where
-    step : (k : ℕ) {p : ℕ} → p ≡ ungray k c → bit_xor p (p / 2 ^ k) ≡ ungray (k + k) c
-    step k e = ap (λ (x : ℕ). bit_xor x (x / 2 ^ k)) e ∙ ungray_double k c
-
--- which is the position of any code of fewer
+-- 32 digits give the position of any code of fewer
 pub ungray_of_32 : (k c : ℕ) → k ≤ 32 → c < 2 ^ k → ungray 32 c ≡ ungray k c
 ungray_of_32 k c h l =
     let j = le_dest h in

@@ -2,7 +2,8 @@
 use Rattle.std.specs.Prelude.{◌≡◌, ℕ, zero, suc, ◌+◌, ◌-◌, ◌*◌, ◌/◌, ◌%◌, ◌^◌, ◌<◌, ◌≤◌, min, Bool, true, false, ◌&&◌, T, ◌==◌}
 use Rattle.std.proofs.Common.{sym, ap, ap₂, ◌∙◌, subst, mul_assoc, mul_comm, one-mul, mul-zero, div-add-mod', mod-lt, mod-eq_of_lt, pow-suc, eq-or-lt_of_le, mul-le-mul, lt_of_le_of_lt, le_trans, inl, inr, arith, eqb→eq, lit<, pow-add}
 use Rattle.std.proofs.Math.Nat.{mul-mul-mul_comm, zero-mod, mod-eq-zero_of_dvd, pow-zero, pow-le-pow_right, min-eq_left, min-eq_right, two-pow-succ, one-le-pow, pow-le-pow_left}
-use Rattle.scales.specs.Remainders.{mul_mod_r, mul_mod_l, of_multiple, power_divides, power_mod, lower_power, above_exponent, newton}
+use Rattle.std.proofs.lemmas.Nat.{mul-mod_first, mul-mod_second}
+use Rattle.scales.specs.Remainders.{of_multiple, power_divides, power_mod, lower_power, above_exponent, newton}
 
 -- every digit of base q but 0 has its power q - 2 for an inverse
 abbrev pub Inverted : ℕ → Type 0
@@ -34,7 +35,7 @@ by_table q t d h l = look_up q (q - 1) t d h (omega arith)
 -- so a number's last digit gives an inverse as far as that digit
 pub last_inverse : (q w : ℕ) → 2 ≤ q → Inverted q → 0 < w % q → (w * (w % q) ^ (q - 2)) % q ≡ 1
 last_inverse q w hq inverted h =
-    sym (mul_mod_l w ((w % q) ^ (q - 2)) q) ∙ inverted (w % q) h (mod-lt w (omega arith))
+    sym (mul-mod_first w ((w % q) ^ (q - 2)) q) ∙ inverted (w % q) h (mod-lt w (omega arith))
 
 -- that power is small in a small base
 pub small_power : (d q : ℕ) → d < q → q ≤ 7 → d ^ (q - 2) < 2 ^ 31
@@ -49,8 +50,8 @@ prime_like q hq inverted x y hx z =
     let i : ℕ = (x % q) ^ (q - 2) in
     let one : (x * i) % q ≡ 1 = last_inverse q x hq inverted hx in
     let again : (x * i) * y ≡ i * (x * y) = ap (λ (k : ℕ). k * y) (mul_comm x i) ∙ mul_assoc i x y in
-    ap (λ (k : ℕ). k % q) (sym (one-mul y)) ∙ ap (λ (k : ℕ). (k * y) % q) (sym one) ∙ mul_mod_l (x * i) y q
-    ∙ ap (λ (k : ℕ). k % q) again ∙ sym (mul_mod_r i (x * y) q) ∙ ap (λ (k : ℕ). (i * k) % q) z
+    ap (λ (k : ℕ). k % q) (sym (one-mul y)) ∙ ap (λ (k : ℕ). (k * y) % q) (sym one) ∙ mul-mod_first (x * i) y q
+    ∙ ap (λ (k : ℕ). k % q) again ∙ sym (mul-mod_second i (x * y) q) ∙ ap (λ (k : ℕ). (i * k) % q) z
     ∙ ap (λ (k : ℕ). k % q) (mul-zero i) ∙ zero-mod q
 
 -- `x` is an inverse of `w` as far as the low m digits
@@ -72,7 +73,7 @@ one_mod q m hq h = mod-eq_of_lt (power_two q m hq h)
 
 low_digits : (q m e w y : ℕ) → m ≤ e → (w * (y % q ^ e)) % q ^ m ≡ (w * y) % q ^ m
 low_digits q m e w y h =
-    sym (mul_mod_r w (y % q ^ e) (q ^ m)) ∙ ap (λ (k : ℕ). (w * k) % q ^ m) (power_mod q m e y h) ∙ mul_mod_r w y (q ^ m)
+    sym (mul-mod_second w (y % q ^ e) (q ^ m)) ∙ ap (λ (k : ℕ). (w * k) % q ^ m) (power_mod q m e y h) ∙ mul-mod_second w y (q ^ m)
 
 -- the product less 1 is a multiple of the power so far, and its square one of the power to come
 less_one : (q m p : ℕ) → 1 ≤ p → p % q ^ m ≡ 1 → ((p - 1) * (p - 1)) % q ^ (m + m) ≡ 0
@@ -95,9 +96,9 @@ doubles q e m d w x hq hm me dm de inv =
     (lower_power q d (m + m) ((p - 1) * (p - 1)) dm (less_one q m p pos one)) (omega arith) in
     low_digits q d e w (x * (n + 2 - p)) de
     ∙ ap (λ (y : ℕ). y % q ^ d) (sym (mul_assoc w x (n + 2 - p)))
-    ∙ sym (mul_mod_l (w * x) (n + 2 - p) (q ^ d))
+    ∙ sym (mul-mod_first (w * x) (n + 2 - p) (q ^ d))
     ∙ ap (λ (y : ℕ). (y * (n + 2 - p)) % q ^ d) (sym (power_mod q d e (w * x) de))
-    ∙ mul_mod_l p (n + 2 - p) (q ^ d)
+    ∙ mul-mod_first p (n + 2 - p) (q ^ d)
     ∙ subst (λ (y : ℕ). (y * (n + 2 - y)) % q ^ d ≡ 1 % q ^ d) back step
   where
     positive : (p d : ℕ) → p % d ≡ 1 → 1 ≤ p

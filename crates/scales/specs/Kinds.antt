@@ -1,13 +1,31 @@
 -- The three kinds of scale: their numbers, and what a mark names.
-use Rattle.std.specs.Prelude.{ℕ, ◌≤◌, cond, ◌&&◌, List, [], ◌∷◌, ◌==◌}
+use Rattle.std.specs.Prelude.{◌≡◌, ◌≢◌, ℕ, ◌≤◌, cond, ◌&&◌, List, [], ◌∷◌, ◌==◌, Result, MatchResult}
 use Rattle.scale.specs.declared.Mark.{Mark}
 use Rattle.scale.specs.Meaning.{Meaning}
+use Rattle.scales.specs.declared.fault.ScaleFault.{ScaleFault}
+use Rattle.scales.specs.declared.kind.Kind.{Kind}
+use Rattle.scales.specs.declared.kind.Kind.TheVariants.{Binary, Prime, Disc}
 use Rattle.scales.specs.Counting.{counting}
 use Rattle.scales.specs.Numbering.{renumbered, gray, ungray}
 
+abbrev pub number : Kind → ℕ
+number Binary = 1
+number Prime = 2
+number Disc = 3
+
+-- the kind that has this number, or a fault where none has
+abbrev pub Decodes : ℕ → Result Kind ScaleFault → Type 0
+Decodes n r = MatchResult r (λ kind. number kind ≡ n) (λ _. (kind : Kind) → number kind ≢ n)
+
 -- each kind and base, with the greatest length that it has
 abbrev pub rows : List (ℕ × ℕ × ℕ)
-rows = (1, 2, 31) ∷ (2, 3, 19) ∷ (2, 5, 13) ∷ (2, 7, 11) ∷ (3, 2, 31) ∷ []
+rows =
+    (number Binary, 2, 31)
+    ∷ (number Prime, 3, 19)
+    ∷ (number Prime, 5, 13)
+    ∷ (number Prime, 7, 11)
+    ∷ (number Disc, 2, 31)
+    ∷ []
 
 -- the greatest length of a kind and base, and 0 where no row has them
 abbrev pub longest_in : List (ℕ × ℕ × ℕ) → ℕ → ℕ → ℕ
@@ -22,9 +40,16 @@ longest = longest_in rows
 abbrev pub Numbers : Mark → Type 0
 Numbers k = (1 ≤ k.length) × (k.length ≤ longest k.kind k.base)
 
--- the scale that a mark names: kind 3 counts under Gray codes, the others plainly
+-- the scale that a mark names: a disc counts under Gray codes, the others plainly
 abbrev pub named : Mark → Meaning
-named k = cond (k.kind == 3) (renumbered gray (ungray k.length) (counting k)) (counting k)
+named k = cond (k.kind == number Disc) (renumbered gray (ungray k.length) (counting k)) (counting k)
 
-abbrev pub mark_of : ℕ → ℕ → ℕ → Mark
-mark_of kind base length = record { kind = kind; base = base; length = length }
+-- the marks of each kind
+abbrev pub binary_mark : ℕ → Mark
+binary_mark length = record { kind = number Binary; base = 2; length = length }
+
+abbrev pub prime_mark : ℕ → ℕ → Mark
+prime_mark base length = record { kind = number Prime; base = base; length = length }
+
+abbrev pub disc_mark : ℕ → Mark
+disc_mark length = record { kind = number Disc; base = 2; length = length }

@@ -1,12 +1,11 @@
 -- The scales that marks name keep the laws.
-use Rattle.std.specs.Prelude.{◌≡◌, ℕ, ◌-◌, ◌^◌, ◌<◌, ◌≤◌, Bool, true, false, cond, not, ◌&&◌, ◌||◌, T, List, [], ◌∷◌, ◌==◌, nat_le, refl}
+use Rattle.std.specs.Prelude.{◌≡◌, ℕ, ◌-◌, ◌^◌, ◌≤◌, Bool, true, false, cond, not, ◌&&◌, ◌||◌, T, List, [], ◌∷◌, ◌==◌, nat_le, refl}
 use Rattle.std.proofs.Common.{sym, ◌∙◌, subst, le_trans, arith, eqb→eq, leb→le, eqb-true}
-use Rattle.std.proofs.Math.Nat.{one-le-pow, pow-le-pow_right}
+use Rattle.std.proofs.Math.Nat.{pow-le-pow_right}
 use Rattle.scale.specs.declared.Mark.{Mark}
 use Rattle.scale.specs.Meaning.{Laws}
-use Rattle.scales.specs.declared.prime.Prime.{Prime}
 use Rattle.scales.specs.Counting.{counting}
-use Rattle.scales.specs.Kinds.{Numbers, rows, longest_in, mark_of, named}
+use Rattle.scales.specs.Kinds.{Numbers, rows, longest_in, named}
 use Rattle.scales.specs.Numbering.{gray, ungray, renumbered}
 use Rattle.scales.specs.GrayCode.{gray_below, ungray_below, gray_ungray, ungray_gray}
 use Rattle.scales.specs.Inverses.{Inverted, both, tabled, by_table}
@@ -93,13 +92,6 @@ fits k numbers =
       at.1,
     )
 
--- so a `Prime` has fit numbers
-pub prime_fit : (s : Prime) → Fit (mark_of 2 s.base s.length) × (s.base ≤ 7)
-prime_fit s = fits (mark_of 2 s.base s.length) (s.least, s.most)
-
-pub prime_power : (s : Prime) (digits : ℕ) → 0 < s.base ^ digits
-prime_power s digits = one-le-pow digits s.base (omega (arith, (prime_fit s).0.base_least))
-
 gray_base : (k : Mark) → Numbers k → k.kind ≡ 3 → k.base ≡ 2
 unfolding all gray_two
 gray_base k numbers three =
@@ -110,7 +102,7 @@ gray_base k numbers three =
     two row e t =
         eqb→eq row.1 2 (subst (λ (x : ℕ). T (not (x == 3) || row.1 == 2)) e t)
 
-pub gray_numbering : (kind e : ℕ) → Numbering gray (ungray e) (counting (mark_of kind 2 e))
+pub gray_numbering : (kind e : ℕ) → Numbering gray (ungray e) (counting (record { kind = kind; base = 2; length = e }))
 gray_numbering kind e =
     record {
       code_below = gray_below e;
@@ -128,5 +120,5 @@ named_laws k numbers = go (k.kind == 3) refl
     go true is =
         let two : k.base ≡ 2 = gray_base k numbers (eqb-true k.kind 3 is) in
         renumbered_laws gray (ungray k.length) (counting k)
-        (subst (λ (q : ℕ). Numbering gray (ungray k.length) (counting (mark_of k.kind q k.length))) (sym two) (gray_numbering k.kind k.length))
+        (subst (λ (q : ℕ). Numbering gray (ungray k.length) (counting (record { kind = k.kind; base = q; length = k.length }))) (sym two) (gray_numbering k.kind k.length))
         (counting_laws k (fits k numbers).0)

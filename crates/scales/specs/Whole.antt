@@ -9,7 +9,8 @@ use Rattle.scale.specs.Meaning.{Laws, reaching}
 use Rattle.scales.specs.Counting.{zeros, counting}
 use Rattle.scales.specs.Parting.{Parted}
 use Rattle.scales.specs.declared.digits.Parts.{Parts}
-use Rattle.scales.specs.Remainders.{mul_mod_r, mul_mod_l, mul_mod_both, multiple, of_multiple, power_mod, lower_power, remainder_below}
+use Rattle.std.proofs.lemmas.Nat.{mul-mod, mul-mod_first, mul-mod_second}
+use Rattle.scales.specs.Remainders.{multiple, of_multiple, power_mod, lower_power, remainder_below}
 use Rattle.scales.specs.Inverses.{Inverted, prime_like, inverse, power_two}
 use Rattle.scales.specs.Zeros.{zeros_divide, divide_zeros, zeros_are, split_zeros, parted_level}
 
@@ -55,8 +56,8 @@ quotient_is n a b p u x ha eb za inv =
     ∙ ap (λ (y : ℕ). y * (p * x)) (mul_comm u (a / p))
     ∙ mul-mul-mul_comm (a / p) u p x
     ∙ ap (λ (y : ℕ). y * (u * x)) (mul_comm (a / p) p ∙ sym (multiple p a za)) in
-    mul_mod_r b (a / p * x) n ∙ ap (λ (y : ℕ). y % n) is ∙ sym (mul_mod_r a (u * x) n) ∙ ap (λ (y : ℕ). (a * y) % n) inv
-    ∙ mul_mod_r a 1 n ∙ ap (λ (y : ℕ). y % n) (mul-one a) ∙ mod-eq_of_lt ha
+    mul-mod_second b (a / p * x) n ∙ ap (λ (y : ℕ). y % n) is ∙ sym (mul-mod_second a (u * x) n) ∙ ap (λ (y : ℕ). (a * y) % n) inv
+    ∙ mul-mod_second a 1 n ∙ ap (λ (y : ℕ). y % n) (mul-one a) ∙ mod-eq_of_lt ha
 
 -- the answer of code that takes remainders first: there is none where the power does not divide
 pub no_quotient :
@@ -91,7 +92,7 @@ some_quotient q e a b x y p i c hq ea eb parts zx inv ec =
     let hx = remainder_below (q ^ e) a x (q ^ e) hn (le_refl (q ^ e)) ea in
     let hy = remainder_below (q ^ e) b y (q ^ e) hn (le_refl (q ^ e)) eb in
     let level = parted_level q e y p hq hy parts in
-    let is : c ≡ (x / p.power * i) % q ^ e = ec ∙ mul_mod_both (x / p.power) i (q ^ e) in
+    let is : c ≡ (x / p.power * i) % q ^ e = ec ∙ sym (mul-mod (x / p.power) i (q ^ e)) in
     subst₂ (λ (s t : ℕ). (zeros q e t ≤ zeros q e s) × ((c < q ^ e) × ((t * c) % q ^ e ≡ s))) ea eb (
       subst (λ (t : ℕ). t ≤ zeros q e x) (sym level.1)
           (divide_zeros q e p.level x (omega arith) (omega (arith, level.0)) (ap (λ (t : ℕ). x % t) (sym parts.1) ∙ zx)),
@@ -230,12 +231,12 @@ counting_laws k fit =
           λ a ha. add-mod-mod a (n - a) n ∙ ap (λ (x : ℕ). x % n) (add-sub_of_le (omega arith)) ∙ mod_self n;
       product_assoc =
           λ a b c ha hb hc.
-          mul_mod_l (a * b) c n ∙ ap (λ (x : ℕ). x % n) (mul_assoc a b c) ∙ sym (mul_mod_r a (b * c) n);
+          mul-mod_first (a * b) c n ∙ ap (λ (x : ℕ). x % n) (mul_assoc a b c) ∙ sym (mul-mod_second a (b * c) n);
       product_comm = λ a b ha hb. ap (λ (x : ℕ). x % n) (mul_comm a b);
       product_one = λ a ha. ap (λ (x : ℕ). x % n) (mul-one a) ∙ mod-eq_of_lt ha;
       product_sum =
           λ a b c ha hb hc.
-          mul_mod_r a (b + c) n ∙ ap (λ (x : ℕ). x % n) (mul-add a b c) ∙ add-mod (a * b) (a * c) n;
+          mul-mod_second a (b + c) n ∙ ap (λ (x : ℕ). x % n) (mul-add a b c) ∙ add-mod (a * b) (a * c) n;
       level_most = λ a ha. (zeros_divide q e (zeros q e a) a hp (le_refl (zeros q e a))).0;
       level_zero =
           le_antisymm (zeros_divide q e (zeros q e 0) 0 hp (le_refl (zeros q e 0))).0

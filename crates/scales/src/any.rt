@@ -1,5 +1,5 @@
 ghost use Rattle.std.specs.Prelude.{◌≡◌, MatchResult};
-ghost use Rattle.scales.specs.Kinds.{Numbers, named, mark_of};
+ghost use Rattle.scales.specs.Kinds.{Numbers, named, binary_mark, prime_mark, disc_mark};
 ghost use Rattle.scales.specs.Made.{any_scale};
 ghost use Rattle.scales.specs.declared.any.AnyScale.TheVariants.{Binary, Prime, Disc};
 ghost use Rattle.scales.specs.Known.{named_laws};
@@ -7,6 +7,7 @@ ghost use Rattle.scales.specs.Known.{named_laws};
 use crate::binary::Binary;
 use crate::disc::Disc;
 use crate::fault::ScaleFault;
+use crate::kind::Kind;
 use crate::prime::Prime;
 use scale::{Mark, Scale};
 
@@ -23,10 +24,10 @@ impl AnyScale {
     pub fn from_mark(mark: Mark) -> Result<AnyScale, ScaleFault>
         ensures { MatchResult result (λ s. Numbers mark × (any_scale s ≡ named mark)) (λ _. Numbers mark → ⊥) }
     {
-        match (mark.kind, mark.base) {
-            (1, 2) => Ok(AnyScale::Binary(Binary::new(mark.length)?)),
-            (2, base) => Ok(AnyScale::Prime(Prime::new(base, mark.length)?)),
-            (3, 2) => Ok(AnyScale::Disc(Disc::new(mark.length)?)),
+        match (Kind::try_from(mark.kind)?, mark.base) {
+            (Kind::Binary, 2) => Binary::new(mark.length).map(AnyScale::Binary),
+            (Kind::Prime, base) => Prime::new(base, mark.length).map(AnyScale::Prime),
+            (Kind::Disc, 2) => Disc::new(mark.length).map(AnyScale::Disc),
             _ => Err(ScaleFault::Numbers),
         }
     }
@@ -36,9 +37,9 @@ impl Scale for AnyScale {
     ghost meaning = { any_scale };
 
     ghost lawful = { elim [
-      | Binary s ↦ named_laws (mark_of 1 2 s.length) (s.least, s.most)
-      | Prime s ↦ named_laws (mark_of 2 s.base s.length) (s.least, s.most)
-      | Disc s ↦ named_laws (mark_of 3 2 s.positions.length) (s.positions.least, s.positions.most)
+      | Binary s ↦ named_laws (binary_mark s.digits.length) s.digits.numbers
+      | Prime s ↦ named_laws (prime_mark s.digits.base s.digits.length) s.digits.numbers
+      | Disc s ↦ named_laws (disc_mark s.positions.digits.length) s.positions.digits.numbers
     ] };
 
     fn mark(&self) -> Mark {

@@ -1,13 +1,76 @@
 ghost use Rattle.std.specs.Prelude.{◌≡◌, ◌-◌, ◌^◌, ◌≤◌};
+ghost use Rattle.scales.specs.Kinds.{Numbers, binary_mark};
 
-mod arithmetic;
+use crate::counting::Counting;
+use crate::digits::{Digits, Parts};
+use crate::fault::ScaleFault;
+use crate::kind::Kind;
+use scale::Mark;
 
 // Counting in base 2.
+pub type Binary = Counting<Bits>;
+
+// The digits of base 2.
 #[derive(Clone, Copy)]
-pub struct Binary {
+pub struct Bits {
     length: u8,
     mask: u32,
-    ghost least: { 1 ≤ length },
-    ghost most: { length ≤ 31 },
+    ghost numbers: { Numbers (binary_mark length) },
     ghost whole: { mask ≡ 2 ^ length - 1 },
+}
+
+impl Counting<Bits> {
+    ghost use Rattle.std.specs.Prelude.{MatchResult};
+    ghost use Rattle.scales.specs.Counting.{counting};
+    ghost use Rattle.scales.specs.Made.{binary};
+
+    // Lengths are 1 to 31.
+    pub fn new(length: u8) -> Result<Binary, ScaleFault>
+        ensures { MatchResult result (λ s. Numbers (binary_mark length) × (binary s ≡ counting (binary_mark length))) (λ _. Numbers (binary_mark length) → ⊥) }
+    {
+        if length == 0 || length > 31 {
+            return Err(ScaleFault::Numbers);
+        }
+        let mask = (1 << length) - 1;
+        Ok(Counting {
+            digits: Bits { length, mask },
+        })
+    }
+}
+
+impl Digits for Bits {
+    ghost use Rattle.scales.specs.Known.{named_laws};
+
+    ghost counts = { λ s. binary_mark s.length };
+
+    ghost lawful = { λ s. named_laws (binary_mark s.length) s.numbers };
+
+    fn mark(&self) -> Mark {
+        Mark {
+            kind: Kind::Binary.into(),
+            base: 2,
+            length: self.length,
+        }
+    }
+
+    fn size(&self) -> u32 {
+        self.mask + 1
+    }
+
+    fn remainder(&self, x: u64) -> u32 {
+        (x & u64::from(self.mask)) as u32
+    }
+
+    fn split(&self, a: u32) -> Parts {
+        let level = a.trailing_zeros();
+        Parts {
+            level: level as u8,
+            power: 1 << level,
+            unit: a >> level,
+        }
+    }
+
+    fn digit_inverse(&self, _unit: u32) -> u32 {
+        1
+    }
 }

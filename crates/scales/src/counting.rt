@@ -1,75 +1,92 @@
-// Counting modulo the size, in any base that behaves as a prime.
-
 ghost use Rattle.std.specs.Prelude.{◌≡◌, ◌*◌, ◌%◌, ◌<◌, ◌≤◌};
-ghost use Rattle.scale.specs.Meaning.{Divided, base, reading, size};
+ghost use Rattle.scale.specs.Meaning.{base, reading, size};
 ghost use Rattle.scales.specs.Counting.{counting};
 
 use crate::digits::Digits;
+use scale::{Mark, Scale};
 
-pub fn step<D: Digits>(scale: &D) -> u32
-    ensures { result ≡ (counting (D.Digits.counts scale.now)).step }
-{
-    scale.remainder(u64::from(scale.numbers().base))
+// Counting modulo the size, in any base that behaves as a prime.
+#[derive(Clone, Copy)]
+pub struct Counting<D> {
+    pub(crate) digits: D,
 }
 
-pub fn sum<D: Digits>(scale: &D, a: u32, b: u32) -> u32
-    ensures { let m = counting (D.Digits.counts scale.now) in result ≡ m.sum (reading m a) (reading m b) }
-{
-    scale.remainder(u64::from(a) + u64::from(b))
-}
+impl<D: Digits> Counting<D> {
+    pub(crate) fn reading(&self, a: u32) -> u32
+        ensures { result ≡ reading (counting (D.counts self.now.digits)) a }
+    {
+        self.digits.remainder(u64::from(a))
+    }
 
-pub fn negative<D: Digits>(scale: &D, a: u32) -> u32
-    ensures { let m = counting (D.Digits.counts scale.now) in result ≡ m.negative (reading m a) }
-{
-    let a = scale.remainder(u64::from(a));
-    if a == 0 { 0 } else { scale.size() - a }
-}
-
-pub fn product<D: Digits>(scale: &D, a: u32, b: u32) -> u32
-    ensures { let m = counting (D.Digits.counts scale.now) in result ≡ m.product (reading m a) (reading m b) }
-{
-    scale.remainder(u64::from(a) * u64::from(b))
-}
-
-pub fn level<D: Digits>(scale: &D, a: u32) -> u8
-    ensures { let m = counting (D.Digits.counts scale.now) in result ≡ m.level (reading m a) }
-{
-    let a = scale.remainder(u64::from(a));
-    if a == 0 {
-        scale.numbers().length
-    } else {
-        scale.split(a).level
+    // Each turn doubles the number of digits in which the inverse is exact.
+    fn inverse(&self, unit: u32) -> u32
+        requires { let m = counting (D.counts self.now.digits) in 0 < unit % base m }
+        ensures { let m = counting (D.counts self.now.digits) in (unit * result) % size m ≡ 1 }
+    {
+        let length = u32::from(self.digits.mark().length);
+        let size = u64::from(self.digits.size());
+        let mut inverse = self.digits.digit_inverse(unit);
+        let mut exact = 1;
+        while exact < length {
+            let near = self.digits.remainder(u64::from(unit) * u64::from(inverse));
+            inverse = self
+                .digits
+                .remainder(u64::from(inverse) * (size + 2 - u64::from(near)));
+            exact *= 2;
+        }
+        inverse
     }
 }
 
-// Each turn doubles the number of digits in which the inverse is exact.
-fn inverse<D: Digits>(scale: &D, unit: u32) -> u32
-    requires { let m = counting (D.Digits.counts scale.now) in 0 < unit % base m }
-    ensures { let m = counting (D.Digits.counts scale.now) in (unit * result) % size m ≡ 1 }
-{
-    let length = u32::from(scale.numbers().length);
-    let size = u64::from(scale.size());
-    let mut inverse = scale.digit_inverse(unit);
-    let mut exact = 1;
-    while exact < length {
-        let near = scale.remainder(u64::from(unit) * u64::from(inverse));
-        inverse = scale.remainder(u64::from(inverse) * (size + 2 - u64::from(near)));
-        exact *= 2;
-    }
-    inverse
-}
+impl<D: Digits> Scale for Counting<D> {
+    ghost meaning = { λ s. counting (D.counts s.digits) };
 
-pub fn quotient<D: Digits>(scale: &D, a: u32, b: u32) -> Option<u32>
-    ensures { let m = counting (D.Digits.counts scale.now) in Divided m (reading m a) (reading m b) result }
-{
-    let a = scale.remainder(u64::from(a));
-    let b = scale.remainder(u64::from(b));
-    if b == 0 {
-        return if a == 0 { Some(0) } else { None };
+    ghost lawful = { λ s. D.lawful s.digits };
+
+    fn mark(&self) -> Mark {
+        self.digits.mark()
     }
-    let parts = scale.split(b);
-    if a % parts.power != 0 {
-        return None;
+
+    fn one(&self) -> u32 {
+        1
     }
-    Some(product(scale, a / parts.power, inverse(scale, parts.unit)))
+
+    fn step(&self) -> u32 {
+        self.reading(u32::from(self.digits.mark().base))
+    }
+
+    fn sum(&self, a: u32, b: u32) -> u32 {
+        self.digits.remainder(u64::from(a) + u64::from(b))
+    }
+
+    fn negative(&self, a: u32) -> u32 {
+        match self.reading(a) {
+            0 => 0,
+            a => self.digits.size() - a,
+        }
+    }
+
+    fn product(&self, a: u32, b: u32) -> u32 {
+        self.digits.remainder(u64::from(a) * u64::from(b))
+    }
+
+    fn level(&self, a: u32) -> u8 {
+        match self.reading(a) {
+            0 => self.digits.mark().length,
+            a => self.digits.split(a).level,
+        }
+    }
+
+    fn quotient(&self, a: u32, b: u32) -> Option<u32> {
+        let a = self.reading(a);
+        let b = self.reading(b);
+        if b == 0 {
+            return (a == 0).then_some(0);
+        }
+        let parts = self.digits.split(b);
+        if a % parts.power != 0 {
+            return None;
+        }
+        Some(self.product(a / parts.power, self.inverse(parts.unit)))
+    }
 }

@@ -20,7 +20,7 @@ pub struct Parts {
 pub trait Digits {
     ghost counts: { Self → Marked };
 
-    fn numbers(&self) -> Mark
+    fn mark(&self) -> Mark
         ensures { result ≡ counts self.now };
 
     fn size(&self) -> u32

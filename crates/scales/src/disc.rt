@@ -1,12 +1,12 @@
 ghost use Rattle.std.specs.Prelude.{◌≡◌, ◌%◌, ◌^◌, MatchResult};
-ghost use Rattle.scales.specs.Kinds.{Numbers, mark_of, named};
+ghost use Rattle.scales.specs.Kinds.{Numbers, disc_mark, named};
 ghost use Rattle.scales.specs.Made.{disc};
 ghost use Rattle.scales.specs.Numbering.{gray, ungray};
 ghost use Rattle.scales.specs.Known.{named_laws};
 
 use crate::binary::Binary;
-use crate::digits::Digits;
 use crate::fault::ScaleFault;
+use crate::kind::Kind;
 use scale::{Mark, Scale};
 
 // Counting in base 2 under reflected Gray codes: a code stands for its position.
@@ -18,18 +18,19 @@ pub struct Disc {
 impl Disc {
     // Lengths are 1 to 31.
     pub fn new(length: u8) -> Result<Disc, ScaleFault>
-        ensures { MatchResult result (λ s. Numbers (mark_of 3 2 length) × (disc s ≡ named (mark_of 3 2 length))) (λ _. Numbers (mark_of 3 2 length) → ⊥) }
+        ensures { MatchResult result (λ s. Numbers (disc_mark length) × (disc s ≡ named (disc_mark length))) (λ _. Numbers (disc_mark length) → ⊥) }
     {
-        let positions = Binary::new(length)?;
-        Ok(Disc { positions })
+        Ok(Disc {
+            positions: Binary::new(length)?,
+        })
     }
 
     fn position(&self, code: u32) -> u32
-        ensures at { let e = self.now.positions.length in result ≡ ungray e (code % 2 ^ e) }
-        ensures within { result % 2 ^ self.now.positions.length ≡ result }
-        ensures back { gray result ≡ code % 2 ^ self.now.positions.length }
+        ensures at { let e = self.now.positions.digits.length in result ≡ ungray e (code % 2 ^ e) }
+        ensures within { result % 2 ^ self.now.positions.digits.length ≡ result }
+        ensures back { gray result ≡ code % 2 ^ self.now.positions.digits.length }
     {
-        position_of_gray(self.positions.remainder(u64::from(code)))
+        position_of_gray(self.positions.reading(code))
     }
 }
 
@@ -39,29 +40,26 @@ fn gray_code(position: u32) -> u32
     position ^ (position >> 1)
 }
 
-// Each line takes in as many digits again as stand in `p` already.
+// Each turn takes in as many digits again as stand in the position already.
 fn position_of_gray(code: u32) -> u32
     ensures { result ≡ ungray 32 code }
 {
-    let mut p = code;
-    p ^= p >> 1;
-    p ^= p >> 2;
-    p ^= p >> 4;
-    p ^= p >> 8;
-    p ^= p >> 16;
-    p
+    let mut position = code;
+    for digits in [1u32, 2, 4, 8, 16] {
+        position ^= position >> digits;
+    }
+    position
 }
 
 impl Scale for Disc {
     ghost meaning = { disc };
 
-    ghost lawful = { λ s. named_laws (mark_of 3 2 s.positions.length) (s.positions.least, s.positions.most) };
+    ghost lawful = { λ s. named_laws (disc_mark s.positions.digits.length) s.positions.digits.numbers };
 
     fn mark(&self) -> Mark {
         Mark {
-            kind: 3,
-            base: 2,
-            length: self.positions.numbers().length,
+            kind: Kind::Disc.into(),
+            ..self.positions.mark()
         }
     }
 
@@ -90,9 +88,8 @@ impl Scale for Disc {
     }
 
     fn quotient(&self, a: u32, b: u32) -> Option<u32> {
-        match self.positions.quotient(self.position(a), self.position(b)) {
-            Some(c) => Some(gray_code(c)),
-            None => None,
-        }
+        self.positions
+            .quotient(self.position(a), self.position(b))
+            .map(gray_code)
     }
 }

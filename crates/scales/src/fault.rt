@@ -10,11 +10,11 @@ pub enum ScaleFault {
     Numbers,
 }
 
-impl ScaleFault {
-    pub fn refusal(&self) -> Refusal
-        ensures { result ≡ refused self.now }
-    {
-        match self {
+impl From<ScaleFault> for Refusal {
+    ghost from_gives = { λ fault refusal. refusal ≡ refused fault };
+
+    fn from(fault: ScaleFault) -> Refusal {
+        match fault {
             ScaleFault::Numbers => Refusal::Numbers,
         }
     }

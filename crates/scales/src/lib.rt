@@ -8,10 +8,12 @@ mod counting;
 mod digits;
 mod disc;
 mod fault;
+mod kind;
 mod prime;
 
 pub use any::AnyScale;
 pub use binary::Binary;
 pub use disc::Disc;
 pub use fault::ScaleFault;
+pub use kind::Kind;
 pub use prime::Prime;

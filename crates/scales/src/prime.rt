@@ -1,15 +1,126 @@
-ghost use Rattle.std.specs.Prelude.{◌≡◌, ◌^◌, ◌≤◌};
-ghost use Rattle.scales.specs.Kinds.{longest};
+ghost use Rattle.std.specs.Prelude.{◌≡◌, ◌+◌, ◌*◌, ◌%◌, ◌^◌, ◌<◌, ◌≤◌};
+ghost use Rattle.scales.specs.Kinds.{Numbers, longest, number, prime_mark};
+ghost use Rattle.scales.specs.Parting.{Parted};
 
-mod arithmetic;
+use crate::counting::Counting;
+use crate::digits::{Digits, Parts};
+use crate::fault::ScaleFault;
+use crate::kind::Kind;
+use scale::Mark;
 
 // Counting in base 3, 5 or 7.
+pub type Prime = Counting<OddBase>;
+
+// The digits of base 3, 5 or 7.
 #[derive(Clone, Copy)]
-pub struct Prime {
+pub struct OddBase {
     base: u8,
     length: u8,
     size: u32,
-    ghost least: { 1 ≤ length },
-    ghost most: { length ≤ longest 2 base },
+    ghost numbers: { Numbers (prime_mark base length) },
     ghost whole: { size ≡ base ^ length },
+}
+
+impl Counting<OddBase> {
+    ghost use Rattle.std.specs.Prelude.{MatchResult};
+    ghost use Rattle.scales.specs.Counting.{counting};
+    ghost use Rattle.scales.specs.Made.{prime};
+
+    // Base 3 has lengths 1 to 19, base 5 has 1 to 13, and base 7 has 1 to 11.
+    pub fn new(base: u8, length: u8) -> Result<Prime, ScaleFault>
+        ensures { MatchResult result (λ s. Numbers (prime_mark base length) × (prime s ≡ counting (prime_mark base length))) (λ _. Numbers (prime_mark base length) → ⊥) }
+    {
+        if length == 0 || length > greatest_length(base) {
+            return Err(ScaleFault::Numbers);
+        }
+        let size = u32::from(base).pow(u32::from(length));
+        Ok(Counting {
+            digits: OddBase { base, length, size },
+        })
+    }
+}
+
+// The greatest length of a base, and 0 for one that has none.
+fn greatest_length(base: u8) -> u8
+    ensures { result ≡ longest (number Kind.Prime) base }
+{
+    match base {
+        3 => 19,
+        5 => 13,
+        7 => 11,
+        _ => 0,
+    }
+}
+
+impl OddBase {
+    // `power` is the base to `digits`: those zeros leave the unit, if they are there.
+    fn shed(&self, parts: Parts, digits: u8, power: u64) -> Parts
+        requires raised { power ≡ self.now.base ^ digits }
+        requires before { Parted self.now.base (power * power) (parts.power * parts.unit) parts }
+        requires small { parts.power * parts.unit < 2 ^ 32 }
+        requires short { parts.level + digits + digits ≤ 32 }
+        ensures after { Parted self.now.base power (parts.power * parts.unit) result }
+        ensures short { result.level + digits ≤ 32 }
+    {
+        let unit = u64::from(parts.unit);
+        if unit % power != 0 {
+            return parts;
+        }
+        Parts {
+            level: parts.level + digits,
+            power: (u64::from(parts.power) * power) as u32,
+            unit: (unit / power) as u32,
+        }
+    }
+}
+
+impl Digits for OddBase {
+    ghost use Rattle.scales.specs.Known.{named_laws};
+
+    ghost counts = { λ s. prime_mark s.base s.length };
+
+    ghost lawful = { λ s. named_laws (prime_mark s.base s.length) s.numbers };
+
+    fn mark(&self) -> Mark {
+        Mark {
+            kind: Kind::Prime.into(),
+            base: self.base,
+            length: self.length,
+        }
+    }
+
+    fn size(&self) -> u32 {
+        self.size
+    }
+
+    fn remainder(&self, x: u64) -> u32 {
+        (x % u64::from(self.size)) as u32
+    }
+
+    // No number below the size has more than 31 zeros.
+    fn split(&self, a: u32) -> Parts {
+        let whole = Parts {
+            level: 0,
+            power: 1,
+            unit: a,
+        };
+        if a % u32::from(self.base) != 0 {
+            return whole;
+        }
+        let first = u64::from(self.base);
+        let second = first * first;
+        let fourth = second * second;
+        let eighth = fourth * fourth;
+        let parts = self.shed(whole, 16, eighth * eighth);
+        let parts = self.shed(parts, 8, eighth);
+        let parts = self.shed(parts, 4, fourth);
+        let parts = self.shed(parts, 2, second);
+        self.shed(parts, 1, first)
+    }
+
+    // In these bases the power base - 2 of a digit is its inverse.
+    fn digit_inverse(&self, unit: u32) -> u32 {
+        let base = u32::from(self.base);
+        (unit % base).pow(base - 2)
+    }
 }

@@ -1,10 +1,13 @@
 -- The steps of the checks on a file.
-use Rattle.std.proofs.Common.{◌≡◌, ℕ, zero, suc, ◌+◌, ◌*◌, ◌<◌, ◌≤◌, Bool, true, false, eqb, List, length, get_or, is_some, Some, None, MatchBool, Option, sym, refl, ap, ◌∙◌, add-one, arith, Bor, below_more, eqb-true, MatchOption}
+use Rattle.std.proofs.Common.{◌≡◌, ℕ, zero, suc, ◌+◌, ◌*◌, ◌<◌, ◌≤◌, Bool, true, false, eqb, List, length, get_or, is_some, Some, None, MatchBool, Option, sym, refl, ap, ◌∙◌, add-one, zero-add, subst, arith, Bor, below_more, eqb-true, MatchOption}
 use borrow.Author.Tests.{eqb-false}
+use Rattle.std.specs.List.{AllWithin, HoldsAt, range_with_len}
+use Rattle.std.proofs.lemmas.List.FromFn.{get_or-range_with_len, length-range_with_len}
 use Rattle.tie_file.specs.declared.entry.Entry.TheVariants.{Layout, Tie}
 use Rattle.tie_file.specs.Table.{HasEntries, HasBodies, TieLength, byte, entries, kind_at, start_at, extent_at, end_before}
-use Rattle.tie_file.specs.Steps.{BodyFits, LayoutLength}
-use Rattle.tie_file.specs.Reading.{HasEntry, IsEntry}
+use Rattle.tie_file.specs.Steps.{BodyFits, InPlace, LayoutLength}
+use Rattle.tie_file.specs.declared.entry.Line.{Line}
+use Rattle.tie_file.specs.Reading.{HasEntry, IsEntry, kind_number}
 use Rattle.tie_file.proofs.Bytes.{part_byte}
 use Rattle.tie_file.proofs.WellFormed.{body_length}
 
@@ -28,13 +31,12 @@ none (suc i) n = absurd (n (omega arith))
 
 -- every entry follows the one before: one more, and then all
 pub entry_more :
-    (f : List ℕ) (i end kind start extent wanted : ℕ) → end ≡ end_before f i → kind ≡ kind_at f i → start ≡ start_at f i
-    → extent ≡ extent_at f i → (i ≡ 0 → wanted ≡ 1) → (1 ≤ i → wanted ≡ 2) → kind ≡ wanted → start ≡ end
-    → ((k : ℕ) → k < i → Follows f k)
-    → (start + extent ≡ end_before f (i + 1)) × ((k : ℕ) → k < i + 1 → Follows f k)
-entry_more f i end kind start extent wanted e k s x first other is starts before = (
+    (f : List ℕ) (i end : ℕ) (l : Line) → end ≡ end_before f i → kind_at f i ≡ kind_number l.kind → l.start ≡ start_at f i
+    → l.extent ≡ extent_at f i → InPlace i (kind_number l.kind) → l.start ≡ end → ((k : ℕ) → k < i → Follows f k)
+    → (l.start + l.extent ≡ end_before f (i + 1)) × ((k : ℕ) → k < i + 1 → Follows f k)
+entry_more f i end l e k s x place starts before = (
   rw add-one (omega arith),
-  below_more (Follows f) i before ((λ z. omega (arith, first z)), (λ o. omega (arith, other o)), omega arith),
+  below_more (Follows f) i before ((λ z. k ∙ place.0 z), (λ o. k ∙ place.1 o), omega arith),
 )
 
 pub entries_all :
@@ -113,7 +115,7 @@ tie_fits f e i b o there is w =
         (t.0, t.1, size ∙ t.2)
 
 -- every body fits
-pub bodies_all :
+bodies_all :
     (f : List ℕ) → 1 ≤ entries f → ((k : ℕ) → k < entries f → BodyFits f k) → HasBodies f
 bodies_all f some fit =
     record {
@@ -122,7 +124,7 @@ bodies_all f some fit =
       ties = λ i l h. (fit i h).1 l;
     }
 
-pub body_fits_lem : (f : List ℕ) → HasBodies f → (i : ℕ) → i < entries f → BodyFits f i
+body_fits_lem : (f : List ℕ) → HasBodies f → (i : ℕ) → i < entries f → BodyFits f i
 body_fits_lem f b zero h = ((λ z. (b.layout_least, b.layout)), (λ o. absurd (none_less o)))
   where
     none_less : 1 ≤ 0 → ⊥
@@ -131,3 +133,17 @@ body_fits_lem f b (suc i) h = ((λ z. absurd (some_more z)), (λ o. b.ties (suc 
   where
     some_more : suc i ≡ 0 → ⊥
     some_more z = omega arith
+
+-- a test of every number below that of the entries is a test of all bodies
+pub bodies_tested :
+    (f : List ℕ) (n : ℕ) (r : Bool) → n ≡ entries f → 1 ≤ n
+    → MatchBool r (AllWithin (BodyFits f) (range_with_len 0 n) 0 (length (range_with_len 0 n)))
+    ((k : ℕ) × (k < length (range_with_len 0 n)) × HoldsAt (λ i. BodyFits f i → ⊥) (range_with_len 0 n) k)
+    → MatchBool r (HasBodies f) (HasBodies f → ⊥)
+bodies_tested f n true e some all =
+    bodies_all f (omega arith) (λ k h.
+    subst (BodyFits f) (get_or-range_with_len 0 n k 0 (omega arith) ∙ zero-add k)
+    (all k 0 (omega arith) (omega (arith, length-range_with_len 0 n))))
+bodies_tested f n false e some (k, h, not) =
+    let below : k < n = omega (arith, length-range_with_len 0 n) in
+    λ bodies. not 0 (subst (BodyFits f) (sym (get_or-range_with_len 0 n k 0 below ∙ zero-add k)) (body_fits_lem f bodies k (omega arith)))

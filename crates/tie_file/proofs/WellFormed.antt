@@ -3,7 +3,6 @@ use Rattle.std.proofs.Common.{◌≡◌, ℕ, zero, suc, ◌+◌, ◌-◌, ◌<�
 use Rattle.std.proofs.lemmas.List.{length-take-le, length-drop}
 use Rattle.std.proofs.lemmas.List.Edits.{length-between}
 use Rattle.std.proofs.lemmas.List.FromFn.{length-map-range_with_len, get_or-map-range_with_len}
-use Rattle.ties.specs.declared.tie.Term.{Term}
 use Rattle.ties.specs.Equations.{Equation}
 use Rattle.ties.specs.Layouts.{Shape}
 use Rattle.tie_file.specs.declared.entry.Entry.{Entry}
@@ -12,7 +11,7 @@ use Rattle.tie_file.specs.declared.body.LayoutBody.{LayoutBody}
 use Rattle.tie_file.specs.Table.{WellFormed, HasTable, HasEntries, HasBodies, TieLength, byte, entries, kind_at, start_at, extent_at, body_at, end_before}
 use Rattle.tie_file.specs.Steps.{LayoutLength}
 use Rattle.tie_file.specs.Bodies.{equation_of, equations, file_shape, shape_of}
-use Rattle.tie_file.specs.Reading.{HasLayout, HasTie, HasEntry, IsEntry, IsLayout, Readable, shape_in}
+use Rattle.tie_file.specs.Reading.{HasLayout, HasTie, HasEntry, IsEntry, IsLayout, shape_in}
 use Rattle.tie_file.proofs.Bytes.{part_byte}
 
 -- no part of a gapless file ends before one that stands earlier
@@ -92,7 +91,7 @@ layout_widths f t e b =
     let n = length-between (body_at f 0) 5 (length (body_at f 0)) (omega arith) in
     omega (arith, whole.1)
 
--- a tie's body is as long as its terms make it, and a room of 32 has a place for each
+-- a tie's body is as long as its terms make it
 pub tie_whole :
     (f : List ℕ) → HasTable f → HasEntries f → HasBodies f → (i : ℕ) → 1 ≤ i → i < entries f
     → TieLength (length (body_at f i))
@@ -100,13 +99,6 @@ tie_whole f t e b i l h =
     let size = body_length f i (entry_there f t e i h) in
     let fits = b.ties i l h in
     (fits.0, fits.1, size ∙ fits.2)
-
-pub tie_readable :
-    (f : List ℕ) → HasTable f → HasEntries f → HasBodies f → (i : ℕ) → 1 ≤ i → i < entries f
-    → (room : List Term) → 32 ≤ length room → Readable (body_at f i) room
-tie_readable f t e b i l h room r =
-    let fits = tie_whole f t e b i l h in
-    (fits.0, fits.1, fits.2, omega (arith, fits.1))
 
 -- the equations of a file, one by one
 pub equations_length : (f : List ℕ) → length (equations f) ≡ entries f - 1
@@ -123,10 +115,9 @@ layout_there f w =
     let whole = layout_whole f w.table w.entries w.bodies in
     (entry_there f w.table w.entries 0 w.table.first, w.entries.layout, whole.0)
 
-pub tie_there :
-    (f : List ℕ) → WellFormed f → (i : ℕ) → i + 1 < entries f → (room : List Term) → 32 ≤ length room → HasTie f i room
-tie_there f w i h room r = (
+pub tie_there : (f : List ℕ) → WellFormed f → (i : ℕ) → i + 1 < entries f → HasTie f i
+tie_there f w i h = (
   entry_there f w.table w.entries (i + 1) h,
   w.entries.ties (i + 1) (omega arith) h,
-  tie_readable f w.table w.entries w.bodies (i + 1) (omega arith) h room r,
+  tie_whole f w.table w.entries w.bodies (i + 1) (omega arith) h,
 )

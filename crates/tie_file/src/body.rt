@@ -1,11 +1,12 @@
 // What bodies hold: a layout's, and a tie's.
 
 ghost use Rattle.std.specs.Prelude.{◌≡◌, ◌+◌, ◌*◌, ◌<◌, ◌≤◌, length, MatchOption};
-ghost use Rattle.tie_file.specs.Bodies.{long, term_in};
-ghost use Rattle.tie_file.specs.Reading.{IsLayout, ReadInto, Readable, equation_in};
+ghost use Rattle.tie_file.specs.Bodies.{equation_of, long, term_in};
+ghost use Rattle.tie_file.specs.Reading.{IsLayout, equation_in};
 ghost use Rattle.tie_file.specs.Table.{TieLength};
 ghost use Rattle.ties.specs.Equations.{equation};
 
+use arrayvec::ArrayVec;
 use scale::Mark;
 use ties::tie::{Term, Tie};
 
@@ -17,25 +18,23 @@ pub struct LayoutBody<'a> {
     pub widths: &'a [u8],
 }
 
-// What a tie's body holds besides its terms, and how many those are.
-#[derive(Clone, Copy, PartialEq, Eq, Debug)]
+// What a tie's body holds: a tie that owns its terms.
+#[derive(Drop, Debug)]
 pub struct TieBody {
     pub target: u8,
     pub right: u32,
-    pub terms: usize,
+    pub terms: ArrayVec<Term, 32>,
 }
 
 impl TieBody {
-    // The tie, where its terms are at the front of `room`.
-    pub fn tie(self, room: &[Term]) -> Option<Tie<'_>>
-        ensures { let from = room.now in MatchOption result (length from < self.terms) (λ t. (self.terms ≤ length from) × (equation t ≡ equation_in self from)) }
+    pub fn tie(&self) -> Tie<'_>
+        ensures { equation result ≡ equation_in self.now }
     {
-        let terms = room.get(0..self.terms)?;
-        Some(Tie {
+        Tie {
             target: self.target,
             right: self.right,
-            terms,
-        })
+            terms: &self.terms,
+        }
     }
 }
 
@@ -90,16 +89,14 @@ fn nth_term(body: &[u8], i: usize) -> Term
     }
 }
 
-// A tie's body taken apart, its terms at the front of `room`, where each has a place there.
-pub fn tie_of(body: &[u8], room: &mut [Term]) -> Option<TieBody>
-    ensures { let b = body.now in let before = room.old in let after = room.new in MatchOption result ((Readable b before → ⊥) × (after ≡ before)) (ReadInto b before after) }
+// A tie's body taken apart, where its length is a tie's.
+pub fn tie_of(body: &[u8]) -> Option<TieBody>
+    ensures { let b = body.now in MatchOption result (TieLength (length b) → ⊥) (λ t. TieLength (length b) × (equation_in t ≡ equation_of b)) }
 {
-    let terms = count_terms(body.len())?;
-    if terms > room.len() {
-        return None;
-    }
-    for i in 0..terms {
-        room[i] = nth_term(body, i);
+    let count = count_terms(body.len())?;
+    let mut terms = ArrayVec::new();
+    for i in 0..count {
+        terms.push(nth_term(body, i));
     }
     Some(TieBody {
         target: body[0],

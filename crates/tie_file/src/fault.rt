@@ -15,11 +15,11 @@ pub enum FileFault {
     Body,
 }
 
-impl FileFault {
-    pub fn refusal(self) -> Refusal
-        ensures { result ≡ file_refusal self }
-    {
-        match self {
+impl From<FileFault> for Refusal {
+    ghost from_gives = { λ f r. r ≡ file_refusal f };
+
+    fn from(fault: FileFault) -> Refusal {
+        match fault {
             FileFault::Contents => Refusal::Contents,
             FileFault::Entry => Refusal::Entry,
             FileFault::Body => Refusal::Body,

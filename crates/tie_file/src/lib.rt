@@ -3,30 +3,37 @@
 
 #![tactic(auto)]
 
-ghost use Rattle.std.specs.Prelude.{◌≡◌, ◌+◌, MatchResult};
+ghost use Rattle.std.specs.Prelude.{◌≡◌, MatchResult};
 ghost use Rattle.tie_file.specs.Reading.{Bad};
-ghost use Rattle.tie_file.specs.Table.{WellFormed, entries};
+ghost use Rattle.tie_file.specs.Table.{WellFormed};
 
+use crate::checks::Contents;
 use crate::fault::FileFault;
+use crate::file::TieFile;
 
 pub mod body;
 mod checks;
 pub mod entry;
 pub mod fault;
+pub mod file;
 pub mod parts;
 
-// The number of ties of a well-formed file. Each check is made over the whole file before the next.
-pub fn verify(file: &[u8]) -> Result<usize, FileFault>
-    ensures { let f = file.now in MatchResult result (λ n. WellFormed f × (n + 1 ≡ entries f)) (Bad f) }
+// A longer file is refused.
+pub const MOST_BYTES: usize = 16_384;
+
+// The file, where it is well formed. Each check is made over the whole of it before the next.
+pub fn verify(file: &[u8]) -> Result<TieFile<'_>, FileFault>
+    ensures { let f = file.now in MatchResult result (λ t. WellFormed f × (t ≡ f)) (Bad f) }
 {
-    let Some(count) = checks::count_entries(file) else {
-        return Err(FileFault::Contents);
-    };
-    if !checks::entries_follow(file, count) {
+    let contents = Contents::read(file).ok_or(FileFault::Contents)?;
+    if !contents.entries_follow() {
         return Err(FileFault::Entry);
     }
-    if !checks::bodies_fit(file, count) {
+    if !contents.bodies_fit() {
         return Err(FileFault::Body);
     }
-    Ok(count - 1)
+    Ok(TieFile {
+        bytes: file,
+        ties: contents.count - 1,
+    })
 }

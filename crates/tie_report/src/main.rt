@@ -10,9 +10,10 @@ use report::lines::Lines;
 use report::report;
 use std::io::Read;
 use std::process::ExitCode;
+use tie_file::MOST_BYTES;
 
-// One byte more than a tie file may have: a longer file is refused without being read to its end.
-const ENOUGH: u64 = 16_385;
+// A file that is too long is refused without being read to its end.
+const ENOUGH: u64 = MOST_BYTES as u64 + 1;
 
 // The message is written here: an error that `main` returned would be written once more.
 fn main(rt: HostRuntime) -> anyhow::Result<ExitCode> {

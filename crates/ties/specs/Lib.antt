@@ -1,3 +1,4 @@
 pub mod Layouts
 pub mod Equations
 pub mod Faults
+pub mod Propositions

@@ -14,11 +14,11 @@ pub enum LayoutFault {
     Width,
 }
 
-impl LayoutFault {
-    pub fn refusal(self) -> Refusal
-        ensures { result ≡ layout_refusal self }
-    {
-        match self {
+impl From<LayoutFault> for Refusal {
+    ghost from_gives = { λ f r. r ≡ layout_refusal f };
+
+    fn from(fault: LayoutFault) -> Refusal {
+        match fault {
             LayoutFault::Shape => Refusal::Shape,
             LayoutFault::Width => Refusal::Width,
         }
@@ -39,17 +39,6 @@ pub enum TermFault {
 }
 
 impl TermFault {
-    pub fn refusal(self) -> Refusal
-        ensures { result ≡ term_refusal self }
-    {
-        match self {
-            TermFault::Absent(_) => Refusal::Absent,
-            TermFault::Order(_) => Refusal::Order,
-            TermFault::NoCode(_) => Refusal::NoCode,
-            TermFault::Coarse(_) => Refusal::Coarse,
-        }
-    }
-
     pub fn place(self) -> usize
         ensures { result ≡ term_place self }
     {
@@ -62,6 +51,19 @@ impl TermFault {
     }
 }
 
+impl From<TermFault> for Refusal {
+    ghost from_gives = { λ f r. r ≡ term_refusal f };
+
+    fn from(fault: TermFault) -> Refusal {
+        match fault {
+            TermFault::Absent(_) => Refusal::Absent,
+            TermFault::Order(_) => Refusal::Order,
+            TermFault::NoCode(_) => Refusal::NoCode,
+            TermFault::Coarse(_) => Refusal::Coarse,
+        }
+    }
+}
+
 #[derive(Clone, Copy, PartialEq, Eq, Debug)]
 pub enum TieFault {
     // the target is no counter of a head
@@ -70,15 +72,6 @@ pub enum TieFault {
 }
 
 impl TieFault {
-    pub fn refusal(self) -> Refusal
-        ensures { result ≡ tie_refusal self }
-    {
-        match self {
-            TieFault::Target => Refusal::Target,
-            TieFault::Term(fault) => fault.refusal(),
-        }
-    }
-
     // The place of the term at fault, where it is a term's.
     pub fn place(self) -> Option<usize>
         ensures { result ≡ tie_place self }
@@ -86,6 +79,17 @@ impl TieFault {
         match self {
             TieFault::Target => None,
             TieFault::Term(fault) => Some(fault.place()),
+        }
+    }
+}
+
+impl From<TieFault> for Refusal {
+    ghost from_gives = { λ f r. r ≡ tie_refusal f };
+
+    fn from(fault: TieFault) -> Refusal {
+        match fault {
+            TieFault::Target => Refusal::Target,
+            TieFault::Term(fault) => fault.into(),
         }
     }
 }

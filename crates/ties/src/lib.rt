@@ -4,5 +4,6 @@
 
 pub mod fault;
 pub mod layout;
+pub mod sound;
 mod terms;
 pub mod tie;

@@ -37,7 +37,7 @@ pub fn rise(terms: &[Term]) -> Result<(), TermFault>
 fn above(term: &Term, other: &Term) -> bool
     ensures { Decides result (Above term.now other.now) }
 {
-    term.head > other.head || term.head == other.head && term.counter > other.counter
+    (term.head, term.counter) > (other.head, other.counter)
 }
 
 pub fn codes<S: Scale>(scale: &S, terms: &[Term], right: u32) -> Result<(), TermFault>

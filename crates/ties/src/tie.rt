@@ -7,6 +7,7 @@ ghost use Rattle.ties.specs.Layouts.{shape};
 
 use crate::fault::TieFault;
 use crate::layout::Layout;
+use crate::sound::SoundTie;
 use crate::terms;
 use scale::Scale;
 
@@ -29,8 +30,12 @@ pub struct Tie<'a> {
 
 impl Tie<'_> {
     // The checks on a tie, each over all terms before the next.
-    pub fn check<S: Scale>(&self, scale: &S, layout: &Layout) -> Result<(), TieFault>
-        ensures { let m = S.Scale.meaning scale.now in let s = shape layout.now in let e = equation self.now in MatchResult result (λ _. Sound m s e) (Faulty m s e) }
+    pub fn check<'a, S: Scale>(
+        &'a self,
+        scale: &'a S,
+        layout: &'a Layout,
+    ) -> Result<SoundTie<'a, S>, TieFault>
+        ensures { let m = S.Scale.meaning scale.now in let s = shape layout.now in let e = equation self.now in MatchResult result (λ t. Sound m s e × (t.tie ≡ self.now) × (t.scale.now ≡ scale.now) × (t.layout.now ≡ layout.now)) (Faulty m s e) }
     {
         if self.target >= layout.counters() {
             return Err(TieFault::Target);
@@ -40,6 +45,10 @@ impl Tie<'_> {
         terms::rise(terms)?;
         terms::codes(scale, terms, self.right)?;
         terms::fine(scale, layout, self.target, terms)?;
-        Ok(())
+        Ok(SoundTie {
+            scale,
+            layout,
+            tie: *self,
+        })
     }
 }

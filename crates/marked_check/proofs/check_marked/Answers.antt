@@ -1,14 +1,13 @@
-use Rattle.tie_file.proofs.WellFormed.{layout_there}
+use Rattle.std.proofs.Common.{◌≡◌, ℕ, List, subst}
+use Rattle.tie_file.specs.Bodies.{file_mark}
 use Rattle.marked_check.proofs.Naming.{answered, made_scale, numbers_of}
 use Rattle.marked_check.proofs.check_marked.Goals as goal
-
-pub unreachable-requires : goal.unreachable-requires
-unreachable-requires c = c.in_default.ensures (layout_there c.args.file.now c.in_ok-verify.ensures.0)
 
 pub returns : goal.returns
 returns c =
     let f = c.args.file.now in
-    let mark = c.in-Some.ensures.1.mark in
+    let stated = c.layout.result.mark in
+    let mark = subst (λ (w : List ℕ). stated ≡ file_mark w) c.in_ok-verify.ensures.1 c.layout.ensures.layout.mark in
     let made = c.in_ok-scale.ensures in
     let is = made_scale f _ _ mark made.1 in
     let done = c.in_ok-check.ensures in

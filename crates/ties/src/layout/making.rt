@@ -18,9 +18,7 @@ impl Layout {
             return Err(LayoutFault::Width);
         }
         let mut all = [0; 4];
-        for (r, width) in widths.iter().enumerate() {
-            all[r] = *width;
-        }
+        all[..counters].copy_from_slice(widths);
         Ok(Layout {
             heads,
             counters: counters as u8,
@@ -40,15 +38,21 @@ impl Layout {
         self.counters
     }
 
+    // The width of each counter of a head.
+    pub fn widths(&self) -> &[u8]
+        ensures { result.now ≡ (shape self.now).widths }
+    {
+        &self.widths[..usize::from(self.counters)]
+    }
+
     // The width of a counter, and 0 where there is no such counter.
     pub fn width(&self, counter: u8) -> u8
         ensures { result ≡ width_of (shape self.now) counter }
     {
-        if counter < self.counters {
-            self.widths[counter as usize]
-        } else {
-            0
-        }
+        self.widths()
+            .get(usize::from(counter))
+            .copied()
+            .unwrap_or(0)
     }
 
     // The number of counters on all heads, at most 32.
@@ -70,10 +74,5 @@ impl Layout {
 fn within(most: u8, widths: &[u8]) -> bool
     ensures { Decides result (InWidths most widths.now) }
 {
-    for width in widths {
-        if *width == 0 || *width > most {
-            return false;
-        }
-    }
-    true
+    widths.iter().all(|width| (1..=most).contains(width))
 }

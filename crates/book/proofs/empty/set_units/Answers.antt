@@ -2,7 +2,7 @@ use Rattle.std.proofs.Common.{◌≡◌, ℕ, ◌+◌, ◌*◌, ◌<◌, cond, e
 use native.Mathlib.Decide.{ℕ_discrete}
 use Rattle.scale.specs.Meaning.{Code, Meaning}
 use Rattle.scale.proofs.Codes.{zero_code}
-use Rattle.multipliers.proofs.Adding.{codes_set}
+use Rattle.multipliers.proofs.Growing.{codes_set}
 use Rattle.book.specs.Turning.{generator}
 use Rattle.book.specs.Standing.{Units}
 use Rattle.book.proofs.Spots.{row_inside, spot_apart}

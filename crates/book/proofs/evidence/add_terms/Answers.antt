@@ -1,6 +1,6 @@
 use Rattle.std.proofs.Common.{arith}
 use Rattle.ties.specs.Layouts.{shape}
-use Rattle.multipliers.proofs.Adding.{inside, one_more, shares_none}
+use Rattle.multipliers.proofs.Growing.{inside, one_more, shares_none}
 use Rattle.book.proofs.evidence.add_terms.Goals as goal
 
 pub loop-term-init : goal.loop-term-init

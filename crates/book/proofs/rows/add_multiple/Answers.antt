@@ -1,5 +1,5 @@
 use Rattle.std.proofs.Common.{◌<◌, length, get_or, sym, ap, ◌∙◌, arith}
-use Rattle.multipliers.proofs.Adding.{codes_set}
+use Rattle.multipliers.proofs.Growing.{codes_set}
 use Rattle.book.proofs.Filling.{add_nothing, sum_product_is, written_more}
 use Rattle.book.proofs.rows.add_multiple.Goals as goal
 

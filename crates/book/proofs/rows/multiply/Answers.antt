@@ -1,5 +1,5 @@
 use Rattle.std.proofs.Common.{◌<◌, length, get_or, sym, ap, ◌∙◌, arith}
-use Rattle.multipliers.proofs.Adding.{codes_set}
+use Rattle.multipliers.proofs.Growing.{codes_set}
 use Rattle.book.proofs.Filling.{one_product, product_is, written_more}
 use Rattle.book.proofs.rows.multiply.Goals as goal
 

@@ -1,8 +1,7 @@
-use Rattle.std.proofs.Common.{◌≡◌, map, take, drop}
+use Rattle.std.proofs.Common.{◌≡◌, map}
 use Rattle.std.specs.List.{range_with_len}
 use Rattle.tie_file.specs.Bodies.{term_in}
 use Rattle.tie_file.proofs.body.tie_of.Given as goal
 
 abbrev pub invariant-loop-i : goal.invariant-loop-i
-invariant-loop-i l =
-    (take l.i l.room ≡ map (term_in l.body) (range_with_len 0 l.i)) × (drop l.i l.room ≡ drop l.i l.initial.room)
+invariant-loop-i l = l.terms.items ≡ map (term_in l.body) (range_with_len 0 l.i)

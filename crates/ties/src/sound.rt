@@ -1,0 +1,42 @@
+// Ties that passed the checks.
+
+ghost use Rattle.std.proofs.Props.{props};
+ghost use Rattle.std.specs.Prelude.{◌≡◌, ◌-◌};
+ghost use Rattle.scale.specs.Meaning.{digits, power};
+ghost use Rattle.ties.specs.Equations.{depth, equation};
+ghost use Rattle.ties.specs.Faults.{Sound};
+ghost use Rattle.ties.specs.Layouts.{shape};
+ghost use Rattle.ties.specs.Propositions.{Above_prop};
+
+use crate::layout::Layout;
+use crate::tie::Tie;
+use scale::{Scale, step_power};
+
+// A tie that passed the checks, with the scale and the layout that it passed them for.
+pub struct SoundTie<'a, S: Scale> {
+    pub scale: &'a S,
+    pub layout: &'a Layout,
+    pub tie: Tie<'a>,
+    pub ghost sound: { Sound (S.Scale.meaning scale.now) (shape layout.now) (equation tie) } by { Prim.hlevel (props, Above_prop) },
+}
+
+impl<S: Scale> SoundTie<'_, S> {
+    // What raises the tie to full length: a power of the step.
+    pub fn raise(&self) -> u32
+        ensures { let m = S.Scale.meaning self.now.scale.now in result ≡ power m (digits m - depth (shape self.now.layout.now) (equation self.now.tie)) }
+    {
+        let depth = self.layout.width(self.tie.target);
+        step_power(self.scale, self.scale.mark().length.saturating_sub(depth))
+    }
+}
+
+// A derive would ask it of the scale too, which is only borrowed.
+impl<S: Scale> Drop for SoundTie<'_, S> {
+    fn drop(self) {
+        let SoundTie {
+            scale: _,
+            layout: _,
+            tie: _,
+        } = self;
+    }
+}
