@@ -1,7 +1,7 @@
 -- The rows that standing ties built reach just the solutions of these ties, and what follows for one more tie.
-use Rattle.std.proofs.Common.{◌≡◌, ℕ, zero, suc, ◌+◌, ◌-◌, ◌*◌, ◌/◌, ◌%◌, ◌<◌, ◌≤◌, Bool, true, false, cond, eqb, List, [], ◌∷◌, ◌++◌, map, length, get_or, take, sym, refl, ap, ◌∙◌, subst, ap₂, arith, take-suc}
-use Rattle.std.specs.List.{AllByRecursion}
-use Rattle.std.proofs.ByRecursion.{All-push}
+use Rattle.std.proofs.Common.{◌≡◌, ℕ, zero, suc, ◌+◌, ◌-◌, ◌*◌, ◌/◌, ◌%◌, ◌<◌, ◌≤◌, Bool, true, false, cond, eqb, List, [], ◌∷◌, ◌++◌, map, length, get_or, take, sym, refl, ap, ◌∙◌, subst, ap₂, arith, take-suc, Some}
+use Rattle.std.specs.List.{All}
+use Rattle.std.proofs.lemmas.List.Elements.{All-nil, All-pop, All-push}
 use Rattle.std.proofs.lemmas.List.{map_push, take_all}
 use Rattle.scale.specs.Meaning.{Meaning, Laws, Code, digits, power}
 use Rattle.scale.proofs.Codes.{reading_of}
@@ -38,9 +38,8 @@ use Rattle.book.proofs.Coding.{
 }
 
 -- what holds of all of a list and of one more
-all_parts : {X : Type 0} (P : X → Type 0) (xs : List X) (x : X) → AllByRecursion P (xs ++ (x ∷ [])) → AllByRecursion P xs × P x
-all_parts P [] x all = (tt, all.0)
-all_parts P (y ∷ ys) x all = let tail = all_parts P ys x all.1 in ((all.0, tail.0), tail.1)
+all_parts : {X : Type 0} (P : X → Type 0) (xs : List X) (x : X) → All P (xs ++ (x ∷ [])) → All P xs × P x
+all_parts P xs x all = All-pop P (xs ++ (x ∷ [])) xs (Some x) refl all
 
 -- the equations of the first n standing ties
 abbrev pub ledger_of : List Standing → ℕ → List Equation
@@ -65,10 +64,10 @@ module _ (m : Meaning) (s : Shape) (ks : List Standing) where
   built_codes (suc n) xs f (old, g, before, step) = (step.codes, step.size)
 
   pub built_sound :
-      (n : ℕ) (xs : List ℕ) (f : ℕ) → n ≤ length ks → Built m s ks n xs f → AllByRecursion (Sound m s) (ledger_of ks n)
-  built_sound zero xs f most built = tt
+      (n : ℕ) (xs : List ℕ) (f : ℕ) → n ≤ length ks → Built m s ks n xs f → All (Sound m s) (ledger_of ks n)
+  built_sound zero xs f most built = All-nil (Sound m s)
   built_sound (suc n) xs f most (old, g, before, step) =
-      subst (AllByRecursion (Sound m s)) (sym (ledger_more ks n most))
+      subst (All (Sound m s)) (sym (ledger_more ks n most))
       (All-push (Sound m s) (ledger_of ks n) (equation_of (nth_standing ks n))
       (built_sound n old g (omega arith) before) step.sound)
 
@@ -88,7 +87,7 @@ module _ (m : Meaning) (l : Laws m) (s : Shape) (within : Within m s) where
         same_code m _ _
         (coded_is m l xs fresh.codes (places s + i * places s) j ∙ fresh.units i j h k ∙ either (eqb i j))
         )),
-    λ on. tt,
+    λ on. All-nil _,
   )
     where
       either : (b : Bool) → cond b m.one 0 ≡ (cond b one none).0

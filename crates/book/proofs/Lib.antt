@@ -1,3 +1,4 @@
+mod Books
 mod Choosing
 mod Coding
 mod Counted

@@ -3,8 +3,8 @@ use Rattle.std.proofs.Common.{◌≡◌, ℕ, zero, suc, ◌+◌, ◌-◌, ◌*�
 use mathlib.Core.List.{map-append}
 use lib.ListN.{get_or-append}
 use lib.Seq.{get_or_at}
-use Rattle.std.specs.List.{AllByRecursion}
-use Rattle.std.proofs.ByRecursion.{All-push}
+use Rattle.std.specs.List.{All}
+use Rattle.std.proofs.lemmas.List.Elements.{All-push}
 use Rattle.scale.specs.Meaning.{Meaning, Laws, Code, digits}
 use Rattle.ties.specs.Layouts.{Assignment, Shape, Within, places}
 use Rattle.ties.specs.Equations.{Contradictory, Count, Equation, Solves}
@@ -95,9 +95,9 @@ module _ (m : Meaning) (l : Laws m) (s : Shape) (t : Table) where
         subst (λ (es : List Equation). Solves m s es x → Solves m s es (slid m x a (generator_of s xs i))) whole
         (slides m l s within ks (length ks) xs t.free (le_refl (length ks)) stands i below x a is)
 
-    pub stands_sound : AllByRecursion (Sound m s) (ledger t)
+    pub stands_sound : All (Sound m s) (ledger t)
     stands_sound =
-        subst (AllByRecursion (Sound m s)) whole (built_sound m s ks (length ks) xs t.free (le_refl (length ks)) stands)
+        subst (All (Sound m s)) whole (built_sound m s ks (length ks) xs t.free (le_refl (length ks)) stands)
 
     -- multipliers that refute sound equations pass the check with every file of just these
     pub shown :
@@ -108,7 +108,7 @@ module _ (m : Meaning) (l : Laws m) (s : Shape) (t : Table) where
         → Shown m s (ledger t ++ (e ∷ [])) ys
     shown e ys sound enough refutes =
         let es = ledger t ++ (e ∷ []) in
-        let sounds : AllByRecursion (Sound m s) es = All-push (Sound m s) (ledger t) e stands_sound sound in
+        let sounds : All (Sound m s) es = All-push (Sound m s) (ledger t) e stands_sound sound in
         let long : length es ≤ length ys = omega (arith, length-append (ledger t) (e ∷ [])) in
         record {
           refutes = refutes;
@@ -116,7 +116,7 @@ module _ (m : Meaning) (l : Laws m) (s : Shape) (t : Table) where
             record {
               usable = usable;
               enough = subst (λ (q : List Equation). length q ≤ length ys) (sym same-ties) long;
-              sound = subst₂ (λ (z : Shape) (q : List Equation). AllByRecursion (Sound m z) q) (sym same_shape) (sym same-ties) sounds;
+              sound = subst₂ (λ (z : Shape) (q : List Equation). All (Sound m z) q) (sym same_shape) (sym same-ties) sounds;
             },
             subst₂ (λ (z : Shape) (q : List Equation). Refutes m z q ys) (sym same_shape) (sym same-ties) refutes,
           );

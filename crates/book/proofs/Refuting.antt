@@ -2,8 +2,8 @@
 use Rattle.std.proofs.Common.{◌≡◌, ℕ, suc, ◌+◌, ◌-◌, ◌*◌, ◌/◌, ◌%◌, ◌<◌, ◌≤◌, Bool, true, false, cond, eqb, List, [], ◌∷◌, ◌++◌, map, length, get_or, set, sym, refl, ap, ◌∙◌, subst, ap₂, arith, length-append, get_or-set_other, get_or-set_same}
 use lib.ListN.{length-map, get_or-append, get_or-map}
 use lib.Seq.{get_or_at}
-use Rattle.std.specs.List.{AllByRecursion}
-use Rattle.std.proofs.ByRecursion.{All-get_or}
+use Rattle.std.specs.List.{All}
+use Rattle.std.proofs.lemmas.List.Elements.{All-get_or}
 use Rattle.scale.specs.Meaning.{Meaning, Laws, Code, Quotient, digits, power, reading}
 use Rattle.scale.proofs.Codes.{power_code, reading_of, zero_code}
 use Rattle.scale.proofs.Coded.{Coded, codes, code, code_of, same_code, summed_sum}
@@ -291,7 +291,7 @@ module _ (m : Meaning) (l : Laws m) (s : Shape) where
     -- after the loop
     module _ (xs ys r : List ℕ)
         (within : Within m s)
-        (sounds : AllByRecursion (Sound m s) es)
+        (sounds : All (Sound m s) es)
         (solves : Solves m s (map equation_of ks) (point_of s xs))
         (ended : Refuting 0 ys r)
       where

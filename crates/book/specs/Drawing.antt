@@ -3,8 +3,8 @@ use Rattle.std.specs.Prelude.{◌≡◌, ℕ, ◌+◌, ◌*◌, ◌<◌, ◌≤�
 use Rattle.scale.specs.Meaning.{Code, Meaning}
 use Rattle.ties.specs.Layouts.{Shape, places, shape}
 use Rattle.ties.specs.Equations.{Count, Equation}
-use Rattle.book.specs.declared.book.Book.{Book}
 use Rattle.book.specs.Sheets.{Exact}
+use Rattle.book.specs.Held.{Held}
 use Rattle.book.specs.Standing.{ledger}
 
 -- a sheet has N × (N + 1) numbers
@@ -20,19 +20,27 @@ pub record Drawn (m : Meaning) (s : Shape) (es : List Equation) (old new : List 
   pub count : Count m s es f
   pub kept : drop (sheet_size s) new ≡ drop (sheet_size s) old
 
+-- the one sheet of the equations, with its free digits, is drawn
+pub record SameSheet (m : Meaning) (s : Shape) (es : List Equation) (xs : List ℕ) (digits : ℕ) (old new : List ℕ) (f : ℕ) : Type 0
+  where
+    pub drawn : Drawn m s es old new f
+    pub sheet : take (sheet_size s) new ≡ xs
+    pub free : f ≡ digits
+
+-- a list that is too short for a sheet is kept
+abbrev pub Kept : Shape → List ℕ → List ℕ → Type 0
+Kept s old new = (length old < sheet_size s) × (new ≡ old)
+
 -- the same of a book, whose sheet and free digits are always the same
 module _ {S : Type 0} where
-  abbrev pub sheet_of : Book S → List ℕ
+  abbrev pub sheet_of : Held S → List ℕ
   sheet_of b = vec_items b.table.rows
 
-  abbrev pub free_of : Book S → ℕ
+  abbrev pub free_of : Held S → ℕ
   free_of b = b.table.free
 
-  pub record DrawnFrom (meaning : S → Meaning) (b : Book S) (old new : List ℕ) (f : ℕ) : Type 0 where
-    pub drawn : Drawn (meaning b.scale) (shape b.layout) (ledger b.table) old new f
-    pub sheet : take (sheet_size (shape b.layout)) new ≡ sheet_of b
-    pub free : f ≡ free_of b
+  abbrev pub DrawnFrom : (S → Meaning) → Held S → List ℕ → List ℕ → ℕ → Type 0
+  DrawnFrom meaning b = SameSheet (meaning b.scale) (shape b.layout) (ledger b.table) (sheet_of b) (free_of b)
 
-  -- a list that is too short is kept
-  abbrev pub DrawStopped : Book S → List ℕ → List ℕ → Type 0
-  DrawStopped b old new = (length old < sheet_size (shape b.layout)) × (new ≡ old)
+  abbrev pub DrawStopped : Held S → List ℕ → List ℕ → Type 0
+  DrawStopped b = Kept (shape b.layout)

@@ -5,6 +5,7 @@ pub mod Sheets
 pub mod Standing
 pub mod Measures
 pub mod Evidence
+pub mod Held
 pub mod Faults
 pub mod Opening
 pub mod Posting

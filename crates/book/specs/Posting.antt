@@ -7,10 +7,10 @@ use Rattle.ties.specs.Faults.{Faulty, Sound}
 use Rattle.tie_file.specs.Bodies.{equations, file_shape}
 use Rattle.multipliers.specs.Checked.{Checkable, Usable}
 use Rattle.multipliers.specs.Refuting.{Refutes}
-use Rattle.book.specs.declared.book.Book.{Book}
 use Rattle.book.specs.declared.fault.PostFault.{PostFault}
 use Rattle.book.specs.declared.fault.PostFault.TheVariants.{List as Short, Tie, Full, Contradiction}
 use Rattle.book.specs.Rows.{Keeps}
+use Rattle.book.specs.Held.{Held}
 use Rattle.book.specs.Standing.{ledger}
 
 -- a tie is accepted: it is sound, fewer than 64 ties stand, and some assignment meets it and all of them; it fixed so
@@ -64,7 +64,7 @@ Listing m s es e (Err Full) old new = new ≡ old
 Listing m s es e (Err Contradiction) old new = Shown m s (es ++ (e ∷ [])) new × Keeps (suc (length es)) old new
 
 -- the same of a book
-module _ {S : Type 0} (meaning : S → Meaning) (b : Book S) (e : Equation) where
+module _ {S : Type 0} (meaning : S → Meaning) (b : Held S) (e : Equation) where
   abbrev pub PostedTo : List ℕ → Result ℕ PostFault → Type 0
   PostedTo = Answered (meaning b.scale) (shape b.layout) (ledger b.table) e
 
@@ -72,6 +72,6 @@ module _ {S : Type 0} (meaning : S → Meaning) (b : Book S) (e : Equation) wher
   Listed = Listing (meaning b.scale) (shape b.layout) (ledger b.table) e
 
   -- its scale and layout stay, and a refused tie leaves the whole book as it was
-  abbrev pub Posted : Result ℕ PostFault → Book S → Type 0
+  abbrev pub Posted : Result ℕ PostFault → Held S → Type 0
   Posted (Ok fixed) c = (c.scale ≡ b.scale) × (c.layout ≡ b.layout) × (ledger c.table ≡ ledger b.table ++ (e ∷ []))
   Posted (Err f) c = c ≡ b

@@ -5,10 +5,10 @@ use Rattle.ties.specs.declared.fault.TieFault.{TieFault}
 use Rattle.ties.specs.Layouts.{Assignment, Shape, less, shape}
 use Rattle.ties.specs.Equations.{Equation, Solves, depth, total, value}
 use Rattle.ties.specs.Faults.{Faulty, Sound}
-use Rattle.book.specs.declared.book.Book.{Book}
 use Rattle.book.specs.declared.reading.Reading.{Reading}
 use Rattle.book.specs.Drawing.{sheet_of}
 use Rattle.book.specs.Sheets.{generator_of, point_of}
+use Rattle.book.specs.Held.{Held}
 use Rattle.book.specs.Standing.{ledger}
 
 -- any two assignments that meet the equations give an equation values that differ by level k or more
@@ -27,7 +27,7 @@ pub record Queried (m : Meaning) (s : Shape) (es : List Equation) (xs : List ℕ
     pub greatest : (k : ℕ) → k ≤ depth s e → Settles m s es e k → k ≤ r.settled
 
 -- the same of a book; a tie that has a fault is refused with it
-module _ {S : Type 0} (meaning : S → Meaning) (b : Book S) (e : Equation) where
+module _ {S : Type 0} (meaning : S → Meaning) (b : Held S) (e : Equation) where
   abbrev pub QueriedFrom : Reading → Type 0
   QueriedFrom = Queried (meaning b.scale) (shape b.layout) (ledger b.table) (sheet_of b) e
 

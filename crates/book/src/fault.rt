@@ -6,7 +6,7 @@ ghost use Rattle.book.specs.declared.fault.PostFault.TheVariants.{Tie as OfTie};
 ghost use Rattle.book.specs.Faults.{open_refusal, post_place, post_refusal, sheet_refusal, withdraw_refusal};
 
 use refusals::Refusal;
-use std::alloc::{AllocError, AllocFailed};
+use std::alloc::AllocError;
 use ties::fault::{LayoutFault, TieFault};
 
 #[derive(Clone, Copy, Debug)]
@@ -22,7 +22,7 @@ impl OpenFault {
         ensures { result ≡ open_refusal self }
     {
         match self {
-            OpenFault::Layout(fault) => Some(fault.refusal()),
+            OpenFault::Layout(fault) => Some(fault.into()),
             OpenFault::Memory => None,
         }
     }
@@ -55,18 +55,20 @@ pub enum PostFault {
     Contradiction,
 }
 
-impl PostFault {
-    pub fn refusal(self) -> Refusal
-        ensures { result ≡ post_refusal self }
-    {
-        match self {
+impl From<PostFault> for Refusal {
+    ghost from_gives = { λ f r. r ≡ post_refusal f };
+
+    fn from(fault: PostFault) -> Refusal {
+        match fault {
             PostFault::List => Refusal::List,
-            PostFault::Tie(fault) => fault.refusal(),
+            PostFault::Tie(fault) => fault.into(),
             PostFault::Full => Refusal::Full,
             PostFault::Contradiction => Refusal::Contradiction,
         }
     }
+}
 
+impl PostFault {
     // The place of the term at fault, where it is a term's.
     pub fn place(self) -> Option<usize>
         ensures { result ≡ post_place self }
@@ -92,11 +94,11 @@ pub enum SheetFault {
     List,
 }
 
-impl SheetFault {
-    pub fn refusal(self) -> Refusal
-        ensures { result ≡ sheet_refusal self }
-    {
-        match self {
+impl From<SheetFault> for Refusal {
+    ghost from_gives = { λ f r. r ≡ sheet_refusal f };
+
+    fn from(fault: SheetFault) -> Refusal {
+        match fault {
             SheetFault::List => Refusal::List,
         }
     }
@@ -108,11 +110,11 @@ pub enum WithdrawFault {
     Nothing,
 }
 
-impl WithdrawFault {
-    pub fn refusal(self) -> Refusal
-        ensures { result ≡ withdraw_refusal self }
-    {
-        match self {
+impl From<WithdrawFault> for Refusal {
+    ghost from_gives = { λ f r. r ≡ withdraw_refusal f };
+
+    fn from(fault: WithdrawFault) -> Refusal {
+        match fault {
             WithdrawFault::Nothing => Refusal::Nothing,
         }
     }

@@ -2,15 +2,15 @@
 
 #![tactic(auto)]
 
+pub use crate::book::{Book, Closed, Open};
+
 mod book;
-pub mod closed;
 mod dividing;
 mod empty;
 mod evidence;
 pub mod fault;
 mod measured;
 mod measuring;
-pub mod open;
 mod pivot;
 pub mod reading;
 mod rows;

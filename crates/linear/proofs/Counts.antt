@@ -1,10 +1,10 @@
 -- How many assignments solve equations: all of them without equations, and how one more equation lessens their number.
-use Rattle.std.proofs.Common.{◌≡◌, ℕ, zero, suc, ◌+◌, ◌-◌, ◌*◌, ◌/◌, ◌%◌, ◌^◌, ◌<◌, ◌≤◌, Bool, true, cond, leb, List, [], ◌∷◌, ◌++◌, map, length, get_or, sum, sym, refl, ap, ◌∙◌, subst, ap₂, mul-le-mul_right, suc-mul, mul-le-mul_left, one-mul, pow-suc, zero-mul, sub-add_cancel, mul-div_cancel, arith, pow-add, le-leb, leb-true}
+use Rattle.std.proofs.Common.{◌≡◌, ℕ, zero, suc, ◌+◌, ◌-◌, ◌*◌, ◌/◌, ◌%◌, ◌^◌, ◌<◌, ◌≤◌, Bool, true, cond, leb, List, [], ◌∷◌, ◌++◌, map, length, get_or, sum, Some, sym, refl, ap, ◌∙◌, subst, ap₂, mul-le-mul_right, suc-mul, mul-le-mul_left, one-mul, pow-suc, zero-mul, sub-add_cancel, mul-div_cancel, arith, pow-add, le-leb, leb-true}
 use native.Mathlib.Decide.{dec_le}
 use native.Mathlib.Nat.{pow-le-pow_right}
-use Rattle.std.specs.List.{range_with_len, AllByRecursion}
+use Rattle.std.specs.List.{range_with_len, All}
 use Rattle.std.proofs.lemmas.List.FromFn.{length-map-range_with_len, get_or-map-range_with_len}
-use Rattle.std.proofs.ByRecursion.{All-push}
+use Rattle.std.proofs.lemmas.List.Elements.{All-nil, All-push, All-pop}
 use Rattle.std.proofs.lemmas.List.Sums.{sum_by-cons}
 use Rattle.scale.specs.Meaning.{Meaning, Laws, Code, Quotient, base, digits, power, reaching, size}
 use Rattle.scale.proofs.Codes.{power_code, power_pos, zero_code}
@@ -256,9 +256,8 @@ module _ (m : Meaning) (l : Laws m) (s : Shape) (within : Within m s) (es : List
               some.2)),
         )
       where
-        last_of : (P : Equation → Type 0) (ds : List Equation) → AllByRecursion P (ds ++ (e ∷ [])) → AllByRecursion P ds × P e
-        last_of P [] h = (tt, h.0)
-        last_of P (d ∷ ds) h = let rest = last_of P ds h.1 in ((h.0, rest.0), rest.1)
+        last_of : (P : Equation → Type 0) (ds : List Equation) → All P (ds ++ (e ∷ [])) → All P ds × P e
+        last_of P ds h = All-pop P (ds ++ (e ∷ [])) ds (Some e) refl h
 
 module _ (m : Meaning) (l : Laws m) where
   -- the codes of one counter of width w
@@ -333,7 +332,7 @@ module _ (m : Meaning) (l : Laws m) where
       (q ^ added s.heads (λ h. w)) all.0
       (λ x y p h c has. p h has.0 c has.1)
       (λ x y p h k c j. p h c (k, j))
-      (λ x p. (λ h c has. p h has.0 c has.1, tt))
+      (λ x p. (λ h c has. p h has.0 c has.1, All-nil _))
       (λ x p h k c j. p.0 h c (k, j))
       all.1))
     where

@@ -1,7 +1,7 @@
 -- An equation, raised to full length, is a row over all places and a right side: it is met just where they are equal.
 use Rattle.std.proofs.Common.{◌≡◌, ℕ, zero, suc, ◌+◌, ◌*◌, ◌/◌, ◌%◌, ◌<◌, ◌≤◌, ◌↔◌, List, length, get_or, sym, ap, ◌∙◌, subst, ap₂, add-zero, add-suc, suc-mul, zero-mul}
 use lib.Arith.{digits_div, digits_mod}
-use Rattle.std.specs.List.{AllByRecursion}
+use Rattle.std.specs.List.{All}
 use Rattle.scale.specs.Meaning.{Meaning, Laws, reading}
 use Rattle.scale.proofs.Codes.{reading_of}
 use Rattle.scale.proofs.Coded.{Coded, codes, code, same_code}
@@ -132,7 +132,7 @@ module _ (m : Meaning) (l : Laws m) (s : Shape) where
 
   pub refutes_rows :
       (es : List Equation) (ys : List ℕ)
-      → AllByRecursion (Sound m s) es
+      → All (Sound m s) es
       → ((j : ℕ) → j < places s
       → ring_sum R (length es) (λ i. mul (code m l (get_or ys i 0)) (row_of (nth_equation es i) j)) ≡ none)
       → (ring_sum R (length es) (λ i. mul (code m l (get_or ys i 0)) (right_of (nth_equation es i))) ≡ none → ⊥)

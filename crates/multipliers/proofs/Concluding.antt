@@ -1,7 +1,7 @@
 -- From the totals to the answer.
 use Rattle.std.proofs.Common.{◌≡◌, ℕ, zero, suc, ◌+◌, ◌<◌, ◌≤◌, Bool, true, List, length, get_or, replicate, Decides, sym, refl, ap, ◌∙◌, subst, subst₂, add-one, arith, below_more}
-use Rattle.std.specs.List.{AllByRecursion}
-use Rattle.std.proofs.ByRecursion.{All-from_get_or}
+use Rattle.std.specs.List.{All}
+use Rattle.std.proofs.lemmas.List.Elements.{All-from_get_or}
 use Rattle.std.proofs.lemmas.Bool.Decides.{Decides-like}
 use Rattle.scale.specs.Meaning.{Meaning, Laws, Code}
 use Rattle.scale.proofs.Codes.{zero_code}
@@ -83,7 +83,7 @@ concluded m l f ys t n b s usable count enough is sofar decides =
     let es = equations f in
     let all : n ≡ length es = sym (equations_length f ∙ omega arith) in
     let here = subst₂ (λ (v : Shape) (k : ℕ). Sofar m v es ys k t) is all sofar in
-    let sound : AllByRecursion (Sound m (file_shape f)) es = All-from_get_or (Sound m (file_shape f)) es _ here.1 in
+    let sound : All (Sound m (file_shape f)) es = All-from_get_or (Sound m (file_shape f)) es _ here.1 in
     let refutes = refutes_totals m (file_shape f) es ys t b here.2 (subst (λ (v : Shape). Decides b (Contradict v t)) is decides) in (
       (record { usable = usable; enough = subst (λ (k : ℕ). k ≤ length ys) all enough; sound = sound }, refutes),
       λ e. trusted m l (file_shape f) es ys sound usable.within (refutes.0 e),

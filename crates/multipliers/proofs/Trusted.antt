@@ -1,7 +1,7 @@
 -- Why a yes can be trusted: where multipliers refute equations, no assignment meets them all.
 use Rattle.std.proofs.Common.{◌≡◌, ℕ, ◌-◌, ◌<◌, ◌≤◌, Bool, true, false, cond, ◌&&◌, eqb, List, length, get_or, sym, refl, ap, ◌∙◌, subst, ap₂, arith}
-use Rattle.std.specs.List.{AllByRecursion}
-use Rattle.std.proofs.ByRecursion.{All-get_or}
+use Rattle.std.specs.List.{All}
+use Rattle.std.proofs.lemmas.List.Elements.{All-get_or}
 use Rattle.scale.specs.Meaning.{Meaning, Laws, Code, digits, power, summed}
 use Rattle.scale.proofs.Codes.{power_code, reading_of}
 use Rattle.scale.proofs.Coded.{Coded, codes, code, same_code, summed_sum}
@@ -108,7 +108,7 @@ module _ (m : Meaning) (l : Laws m) (s : Shape) where
         ∙ ap (mul (code m l y)) (raised_exact e within sound meets)
         ∙ sym (mul_assoc (code m l y) (raise e) (right e))
 
-  module _ (es : List Equation) (ys : List ℕ) (sound : AllByRecursion (Sound m s) es) where
+  module _ (es : List Equation) (ys : List ℕ) (sound : All (Sound m s) es) where
     abbrev nth : ℕ → Equation
     nth i = nth_equation es i
 

@@ -1,6 +1,6 @@
 -- What the check of multipliers answers, and what stops it.
 use Rattle.std.specs.Prelude.{◌≡◌, ℕ, ◌<◌, ◌≤◌, List, length, Some, None, Option, ◌≢◌}
-use Rattle.std.specs.List.{AllByRecursion}
+use Rattle.std.specs.List.{All}
 use Rattle.refusals.specs.declared.Refusal.{Refusal}
 use Rattle.refusals.specs.declared.Refusal.TheVariants as refusal
 use Rattle.scale.specs.Meaning.{Meaning}
@@ -46,7 +46,7 @@ pub record Usable (m : Meaning) (f : List ℕ) : Type 0 where
 pub record Checkable (m : Meaning) (f : List ℕ) (ys : List ℕ) : Type 0 where
   pub usable : Usable m f
   pub enough : length (equations f) ≤ length ys
-  pub sound : AllByRecursion (Sound m (file_shape f)) (equations f)
+  pub sound : All (Sound m (file_shape f)) (equations f)
 
 -- the check is stopped by the first of its checks that fails; among the ties, at the first that is at fault
 abbrev pub Stopped : Meaning → List ℕ → List ℕ → CheckFault → Type 0

@@ -9,7 +9,6 @@ use Rattle.ties.specs.Layouts.{Shape, shape}
 use Rattle.ties.specs.declared.tie.Tie.{Tie as TieOf}
 use Rattle.ties.specs.Equations.{Equation, equation}
 use Rattle.ties.specs.Faults.{Faulty, Sound}
-use Rattle.book.specs.declared.book.Book.{Book}
 use Rattle.book.specs.declared.fault.PostFault.{PostFault}
 use Rattle.book.specs.declared.fault.PostFault.TheVariants.{List as Short, Tie, Full, Contradiction}
 use Rattle.book.specs.declared.fault.SheetFault.{SheetFault}
@@ -19,6 +18,7 @@ use Rattle.book.specs.Drawing.{DrawStopped, DrawnFrom}
 use Rattle.book.specs.declared.reading.Reading.{Reading}
 use Rattle.book.specs.Querying.{QueriedFrom, QueryStopped}
 use Rattle.book.specs.Posting.{Accepted, Listed, PostStopped, Posted, PostedTo}
+use Rattle.book.specs.Held.{Held}
 use Rattle.book.specs.Standing.{ledger}
 use Rattle.replay.specs.declared.answer.Answer.{Answer}
 use Rattle.replay.specs.declared.answer.Answer.TheVariants as answer
@@ -74,7 +74,7 @@ longer es e same = omega (arith, length-append es (e ∷ []), ap length same)
 longer_none : (es : List Equation) (e : Equation) → es ++ (e ∷ []) ≡ [] → ⊥
 longer_none es e same = omega (arith, length-append es (e ∷ []), ap length same)
 
-module _ {S : Type 0} (meaning : S → Meaning) (b new : Book S) where
+module _ {S : Type 0} (meaning : S → Meaning) (b new : Held S) where
   abbrev m : Meaning
   m = meaning b.scale
 
@@ -135,20 +135,14 @@ module _ {S : Type 0} (meaning : S → Meaning) (b new : Book S) where
 
 -- a sheet, which leaves the book as it was
 pub sheet_step :
-    {S : Type 0} (meaning : S → Meaning) (b : Book S) (list : Bor (List ℕ)) (r : Result ℕ SheetFault) (v : Vec ℕ Global)
+    {S : Type 0} (meaning : S → Meaning) (b : Held S) (list : Bor (List ℕ)) (r : Result ℕ SheetFault) (v : Vec ℕ Global)
     → MatchResult r (DrawnFrom meaning b list.now (vec_items v)) (λ _. DrawStopped b list.now (vec_items v))
     → Step (meaning b.scale) (shape b.layout) (place_of b) (call.Sheet list) (answer.Sheet r v) (place_of b)
-sheet_step meaning b list (Ok f) v drawn =
-    record {
-      replies = sheet list (Ok f) v (record { drawn = drawn.drawn; sheet = drawn.sheet; free = drawn.free });
-      fed = refl;
-      steady = λ same. refl;
-    }
-sheet_step meaning b list (Err f) v stopped = record { replies = sheet list (Err f) v stopped; fed = refl; steady = λ same. refl }
+sheet_step meaning b list r v drawn = record { replies = sheet list r v drawn; fed = refl; steady = λ same. refl }
 
 -- a query, which leaves it as it was too
 pub query_step :
-    {S : Type 0} (meaning : S → Meaning) (b : Book S) (t : TieOf) (r : Result Reading TieFault)
+    {S : Type 0} (meaning : S → Meaning) (b : Held S) (t : TieOf) (r : Result Reading TieFault)
     → MatchResult r (QueriedFrom meaning b (equation t)) (QueryStopped meaning b (equation t))
     → Step (meaning b.scale) (shape b.layout) (place_of b) (call.Query t) (answer.Query r) (place_of b)
 query_step meaning b t r answered = record { replies = query t r answered; fed = refl; steady = λ same. refl }

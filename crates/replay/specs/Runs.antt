@@ -1,5 +1,5 @@
 -- The law of runs: what every list of calls on a book answers.
-use Rattle.std.specs.Prelude.{◌≡◌, ℕ, ◌<◌, ◌≤◌, ◌⊎◌, List, [], ◌∷◌, ◌++◌, length, take, vec_items, Result, Vec, MatchResult, ◌≢◌}
+use Rattle.std.specs.Prelude.{◌≡◌, ℕ, ◌<◌, ◌≤◌, ◌⊎◌, List, [], ◌∷◌, ◌++◌, length, vec_items, Result, Vec, MatchResult, ◌≢◌}
 use Rattle.std.specs.Borrow.{Bor}
 use Rattle.std.specs.declared.alloc.Global.{Global}
 use Rattle.scale.specs.Meaning.{Meaning}
@@ -12,7 +12,7 @@ use Rattle.book.specs.declared.fault.PostFault.{PostFault}
 use Rattle.book.specs.declared.fault.SheetFault.{SheetFault}
 use Rattle.book.specs.declared.fault.WithdrawFault.{WithdrawFault}
 use Rattle.book.specs.Posting.{Answered, Listing}
-use Rattle.book.specs.Drawing.{Drawn, sheet_size}
+use Rattle.book.specs.Drawing.{Kept, SameSheet}
 use Rattle.book.specs.declared.reading.Reading.{Reading}
 use Rattle.book.specs.Querying.{Queried}
 use Rattle.replay.specs.declared.answer.Answer.{Answer}
@@ -45,16 +45,6 @@ pub record Place : Type 0 where
   pub sheet : List ℕ
   pub free : ℕ
 
--- a sheet of the ledger is drawn into a list, and it is the one sheet until the ledger changes
-pub record SameSheet (m : Meaning) (s : Shape) (p : Place) (old new : List ℕ) (f : ℕ) : Type 0 where
-  pub drawn : Drawn m s p.ledger old new f
-  pub sheet : take (sheet_size s) new ≡ p.sheet
-  pub free : f ≡ p.free
-
--- a list that is too short for a sheet is kept
-abbrev pub Kept : Shape → List ℕ → List ℕ → Type 0
-Kept s old new = (length old < sheet_size s) × (new ≡ old)
-
 -- a call answers by the ledger before it, and its list then holds what it should
 pub data Replies (m : Meaning) (s : Shape) (p : Place) : Call → Answer → Type 0 where
   post :
@@ -72,7 +62,7 @@ pub data Replies (m : Meaning) (s : Shape) (p : Place) : Call → Answer → Typ
       → Replies m s p (call.Query t) (answer.Query r)
   sheet :
       (list : Bor (List ℕ)) (r : Result ℕ SheetFault) (new : Vec ℕ Global)
-      → MatchResult r (SameSheet m s p list.now (vec_items new)) (λ short. Kept s list.now (vec_items new))
+      → MatchResult r (SameSheet m s p.ledger p.sheet p.free list.now (vec_items new)) (λ short. Kept s list.now (vec_items new))
       → Replies m s p (call.Sheet list) (answer.Sheet r new)
 
 -- one call: it answers, it feeds the ledger, and where the ledger stays so does the sheet

@@ -10,8 +10,8 @@ ghost use Rattle.ties.specs.Layouts.{Shape};
 use crate::answer::Answer;
 use crate::call::Call;
 use crate::performing::perform;
+use book::Book;
 use book::fault::OpenFault;
-use book::open::Open;
 use scale::Scale;
 use std::alloc::Global;
 
@@ -29,7 +29,7 @@ pub fn replay<S: Scale + Drop>(
 ) -> Result<Vec<Answer>, OpenFault>
     ensures { let m = S.Scale.meaning scale in let s : Shape = record { heads = heads; widths = widths.now } in MatchResult result (λ answers. Lawful m s calls.now answers.items) (OpenStopped m s) }
 {
-    let mut book = Open::new(heap, scale, heads, widths)?;
+    let mut book = Book::new(heap, scale, heads, widths)?;
     let mut answers = Vec::with_capacity(heap, calls.len())?;
     for call in calls {
         answers.push_reserved(perform(heap, &mut book, call)?);

@@ -1,23 +1,20 @@
 // One call on a book.
 
-ghost use Rattle.book.specs.Opening.{Ready};
 ghost use Rattle.replay.specs.Performed.{Performed};
 
 use crate::answer::Answer;
 use crate::call::Call;
-use book::open::Open;
+use book::{Book, Open};
 use scale::Scale;
 use std::alloc::{AllocError, Global};
 
 // Performs a call on a book, with a copy of the list that it hands over.
 pub fn perform<S: Scale>(
     heap: Global,
-    book: &mut Open<S>,
+    book: &mut Book<S, Open>,
     call: &Call,
 ) -> Result<Answer, AllocError>
-    requires { Ready S.Scale.meaning book.old.book }
-    ensures ready { Ready S.Scale.meaning book.new.book }
-    ensures performed { Performed S.Scale.meaning book.old.book call.now result book.new.book }
+    ensures { Performed S.Scale.meaning book.old call.now result book.new }
 {
     match call {
         Call::Post(tie, numbers) => {

@@ -1,5 +1,5 @@
--- The tie that states that a counter's code is 0 has no fault, and what a query of it says.
-use Rattle.std.proofs.Common.{◌≡◌, ℕ, zero, suc, ◌+◌, ◌*◌, ◌/◌, ◌%◌, ◌<◌, List, [], ◌∷◌, length, get_or, set, sym, ap, subst, arith, get_or-set_other, get_or-set_same, below_more}
+-- The tie that states that a counter's code is 0 has no fault, and how places and counters go together.
+use Rattle.std.proofs.Common.{◌≡◌, ℕ, zero, suc, ◌+◌, ◌*◌, ◌/◌, ◌%◌, ◌<◌, List, length, get_or, set, sym, subst, arith, get_or-set_other, get_or-set_same, below_more}
 use lib.Arith.{digits_div, digits_mod}
 use Rattle.scale.specs.Meaning.{Laws, Meaning}
 use Rattle.ties.specs.declared.fault.TieFault.{TieFault}
@@ -7,11 +7,10 @@ use Rattle.ties.specs.declared.fault.TieFault.TheVariants.{Target, Term as OfTer
 use Rattle.ties.specs.declared.fault.TermFault.TheVariants.{Absent, Order, NoCode, Coarse}
 use Rattle.ties.specs.Equations.{Equation}
 use Rattle.ties.specs.Faults.{Coded, Exists, Faulty, Fine, Sound}
-use Rattle.ties.specs.Layouts.{Has, Shape, Sized, counters_of, place, places, width_of}
-use Rattle.ties.proofs.Places.{place_below, place_counter, places_most}
-use Rattle.book.specs.declared.reading.Reading.{Reading}
-use Rattle.book.specs.Querying.{Queried}
-use Rattle.report.specs.Reported.{SettledAt, own}
+use Rattle.ties.specs.declared.layout.Layout.{Layout}
+use Rattle.ties.specs.Layouts.{Has, Shape, counters_of, place, places, shape, width_of}
+use Rattle.ties.proofs.Places.{layout_sized, place_below, place_counter, places_most}
+use Rattle.report.specs.Reported.{own}
 
 -- a sound tie has no fault
 pub no_fault : (m : Meaning) (s : Shape) (e : Equation) (f : TieFault) → Sound m s e → Faulty m s e f → ⊥
@@ -43,35 +42,19 @@ own_sound m laws s h c has =
     fine zero k = omega arith
     fine (suc i) k = absurd (omega (arith, k))
 
--- the tie by another name for one, and what a query of it says
-pub own_of :
-    (m : Meaning) (h c one : ℕ)
-    → one ≡ m.one
-    → record { target = c; right = 0; terms = record { head = h; counter = c; factor = one } ∷ [] } ≡ own m h c
-own_of m h c one e =
-    ap (λ (a : ℕ). let q : Equation = record { target = c; right = 0; terms = record { head = h; counter = c; factor = a } ∷ [] } in q) e
-
-pub settled_of :
-    (m : Meaning) (s : Shape) (es : List Equation) (xs : List ℕ) (h c one : ℕ) (r : Reading)
-    → one ≡ m.one
-    → Queried m s es xs (record { target = c; right = 0; terms = record { head = h; counter = c; factor = one } ∷ [] }) r
-    → SettledAt m s es h c r.settled
-settled_of m s es xs h c one r e queried =
-    let q = subst (λ (x : Equation). Queried m s es xs x r) (own_of m h c one e) queried in
-    record { most = q.most; agree = q.agree; greatest = q.greatest }
-
 -- a place below all of them is a counter's
 pub at_place :
-    (s : Shape) (heads counters i : ℕ)
-    → Sized s
-    → heads ≡ s.heads
-    → counters ≡ counters_of s
+    (layout : Layout) {heads counters i : ℕ}
+    → heads ≡ (shape layout).heads
+    → counters ≡ counters_of (shape layout)
     → i < heads * counters
-    → (i < 32) × Has s (i / counters) (i % counters)
-at_place s heads counters i sized eh ek below =
-    let here : i < places s = subst (λ (a : ℕ). i < a * counters_of s) eh (subst (λ (a : ℕ). i < heads * a) ek below) in
-    let most = places_most s sized in
-    (omega (arith, here, most), subst (λ (a : ℕ). Has s (i / a) (i % a)) (sym ek) (place_counter s i here).0)
+    → (i < 32) × Has (shape layout) (i / counters) (i % counters)
+at_place layout {heads} {counters} {i} eh ek below =
+    let s = shape layout in
+    let here : i < places s = subst (λ (a : ℕ). i < a * counters_of s) eh (subst (λ (a : ℕ). i < heads * a) ek below) in (
+      omega (arith, here, places_most s (layout_sized layout)),
+      subst (λ (a : ℕ). Has s (i / a) (i % a)) (sym ek) (place_counter s i here).0,
+    )
 
 -- what is said of each place is said of each counter
 pub by_counter :

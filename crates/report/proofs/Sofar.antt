@@ -5,8 +5,7 @@ use Rattle.std.proofs.lemmas.List.{take_more}
 use Rattle.scale.specs.Meaning.{Laws, Meaning, base}
 use Rattle.ties.specs.Layouts.{Assignment, Shape, shape}
 use Rattle.ties.specs.Equations.{Count, Equation, Solves, nth, nth_equation}
-use Rattle.book.specs.declared.book.Book.{Book}
-use Rattle.book.specs.Opening.{Ready}
+use Rattle.book.specs.Held.{Held}
 use Rattle.book.specs.Posting.{Accepted, Posted, PostedTo}
 use Rattle.book.specs.Standing.{ledger}
 use Rattle.report.specs.declared.answer.Report.{Report}
@@ -15,8 +14,7 @@ use Rattle.report.specs.Reported.{Digits, Reported, StoppedAt}
 
 -- of the books from the first on, this one is that in which the first i equations stand, each accepted behind the ones
 -- before it
-pub record Sofar {S : Type 0} (meaning : S → Meaning) (first : Book S) (es : List Equation) (i : ℕ) (b : Book S) : Type 0 where
-  pub ready : Ready meaning b
+pub record Sofar {S : Type 0} (meaning : S → Meaning) (first : Held S) (es : List Equation) (i : ℕ) (b : Held S) : Type 0 where
   pub same_scale : b.scale ≡ first.scale
   pub same_layout : b.layout ≡ first.layout
   pub stands : ledger b.table ≡ take i es
@@ -31,7 +29,7 @@ solvable m l s es f count =
     let some : 1 ≤ base m ^ f = one-le-pow f (base m) (omega (arith, l.base_least)) in
     (nth count.list 0, count.solve 0 (omega (arith, count.number)))
 
-module _ {S : Type 0} (meaning : S → Meaning) (first : Book S) (es : List Equation) where
+module _ {S : Type 0} (meaning : S → Meaning) (first : Held S) (es : List Equation) where
   abbrev m : Meaning
   m = meaning first.scale
 
@@ -40,7 +38,7 @@ module _ {S : Type 0} (meaning : S → Meaning) (first : Book S) (es : List Equa
 
   -- what is said of the book is said of the scale and the layout of the first, and of the first i equations
   pub said :
-      (P : Meaning → Shape → List Equation → Type 0) (i : ℕ) (b : Book S)
+      (P : Meaning → Shape → List Equation → Type 0) (i : ℕ) (b : Held S)
       → Sofar meaning first es i b
       → P (meaning b.scale) (shape b.layout) (ledger b.table)
       → P m s (take i es)
@@ -51,16 +49,14 @@ module _ {S : Type 0} (meaning : S → Meaning) (first : Book S) (es : List Equa
 
   -- one more is accepted
   pub sofar_more :
-      (i : ℕ) (b c : Book S) (fixed : ℕ)
+      (i : ℕ) (b c : Held S) (fixed : ℕ)
       → i < length es
       → Sofar meaning first es i b
-      → Ready meaning c
       → PostedTo meaning b (nth_equation es i) (replicate 64 0) (Ok fixed)
       → Posted meaning b (nth_equation es i) (Ok fixed) c
       → Sofar meaning first es (i + 1) c
-  sofar_more i b c fixed h sofar ready answered posted =
+  sofar_more i b c fixed h sofar answered posted =
       record {
-        ready = ready;
         same_scale = posted.0 ∙ sofar.same_scale;
         same_layout = posted.1 ∙ sofar.same_layout;
         stands = posted.2 ∙ ap (λ q. q ++ (nth_equation es i ∷ [])) sofar.stands ∙ sym (take_more es i _ h);
@@ -71,7 +67,7 @@ module _ {S : Type 0} (meaning : S → Meaning) (first : Book S) (es : List Equa
 
   -- the report, where posting ends with the first n standing
   pub reported :
-      (n : ℕ) (stop : Option Stop) (b : Book S) (r : Report)
+      (n : ℕ) (stop : Option Stop) (b : Held S) (r : Report)
       → Laws m
       → n ≤ length es
       → Sofar meaning first es n b

@@ -26,9 +26,9 @@ impl ReportFault {
         ensures { result ≡ report_refusal self }
     {
         match self {
-            ReportFault::File(fault) => Some(fault.refusal()),
-            ReportFault::Scale(fault) => Some(fault.refusal()),
-            ReportFault::Layout(fault) => Some(fault.refusal()),
+            ReportFault::File(fault) => Some(fault.into()),
+            ReportFault::Scale(fault) => Some(fault.into()),
+            ReportFault::Layout(fault) => Some(fault.into()),
             ReportFault::Memory => None,
         }
     }

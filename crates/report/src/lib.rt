@@ -9,8 +9,7 @@ ghost use Rattle.tie_file.specs.Bodies.{equations, file_shape};
 use crate::answer::Report;
 use crate::fault::ReportFault;
 use crate::posting::post_all;
-use book::open::Open;
-use scale::Scale;
+use book::Book;
 use scales::AnyScale;
 use std::alloc::Global;
 use tie_file::{parts, verify};
@@ -31,7 +30,6 @@ pub fn report(heap: Global, file: &[u8]) -> Result<Report, ReportFault>
         return unreachable();
     };
     let scale = AnyScale::from_mark(stated.mark)?;
-    let one = scale.one();
-    let mut opened = Open::new(heap, scale, stated.heads, stated.widths)?;
-    Ok(post_all(&mut opened, one, file, ties))
+    let mut book = Book::new(heap, scale, stated.heads, stated.widths)?;
+    Ok(post_all(&mut book, file, ties))
 }

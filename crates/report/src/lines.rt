@@ -31,7 +31,7 @@ impl fmt::Display for Lines {
         let report = match self.0 {
             Ok(report) => report,
             Err(refusal) => {
-                let number = refusal.number();
+                let number = u8::from(refusal);
                 return write!(f, "refused {number}");
             }
         };
@@ -50,7 +50,7 @@ fn write_front<W: fmt::Write>(report: &Report, f: &mut fmt::Formatter<W>) -> fmt
         None => write!(f, "standing {standing} free {free}"),
         Some(stop) => {
             let tie = stop.tie;
-            let number = stop.fault.refusal().number();
+            let number = u8::from(Refusal::from(stop.fault));
             write!(f, "standing {standing} free {free}\nstopped {tie} {number}")
         }
     }

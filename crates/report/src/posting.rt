@@ -1,7 +1,6 @@
 // Posting the ties of a file.
 
 ghost use Rattle.std.specs.Prelude.{◌≡◌, ◌+◌, ◌<◌, [], replicate};
-ghost use Rattle.book.specs.Opening.{Ready};
 ghost use Rattle.book.specs.Posting.{Posted, PostedTo};
 ghost use Rattle.book.specs.Standing.{ledger};
 ghost use Rattle.report.specs.Reported.{Digits, Reported};
@@ -13,54 +12,48 @@ ghost use Rattle.ties.specs.Layouts.{shape};
 use crate::answer::{Report, Stop};
 use crate::settling::settled_digits;
 use book::fault::PostFault;
-use book::open::Open;
+use book::{Book, Open};
 use scale::Scale;
 use tie_file::parts;
 use ties::tie::Term;
 
 // Posts the ties of the file in order to an empty book until one is refused.
-pub fn post_all<S: Scale>(opened: &mut Open<S>, one: u32, file: &[u8], ties: usize) -> Report
+pub fn post_all<S: Scale>(book: &mut Book<S, Open>, file: &[u8], ties: usize) -> Report
     requires formed { WellFormed file.now }
     requires all { ties + 1 ≡ entries file.now }
-    requires ready { Ready S.Scale.meaning opened.old.book }
-    requires unit { one ≡ (S.Scale.meaning opened.old.book.scale).one }
-    requires nothing { ledger opened.old.book.table ≡ [] }
-    ensures { let b = opened.old.book in Reported (S.Scale.meaning b.scale) (shape b.layout) (equations file.now) result }
+    requires nothing { ledger book.old.table ≡ [] }
+    ensures { let b = book.old in Reported (S.Scale.meaning b.scale) (shape b.layout) (equations file.now) result }
 {
     for i in 0..ties {
-        if let Err(fault) = post_nth(opened, file, i) {
-            return sum_up(opened, one, i, Some(Stop { tie: i, fault }));
+        if let Err(fault) = post_nth(book, file, i) {
+            return sum_up(book, i, Some(Stop { tie: i, fault }));
         }
     }
-    sum_up(opened, one, ties, None)
+    sum_up(book, ties, None)
 }
 
 // The report on the book: `standing` ties stand in it, and posting stopped at `stopped`.
-fn sum_up<S: Scale>(opened: &Open<S>, one: u32, standing: usize, stopped: Option<Stop>) -> Report
-    requires ready { Ready S.Scale.meaning opened.now.book }
-    requires unit { one ≡ (S.Scale.meaning opened.now.book.scale).one }
+fn sum_up<S: Scale>(book: &Book<S, Open>, standing: usize, stopped: Option<Stop>) -> Report
     ensures standing { result.standing ≡ standing }
     ensures stopped { result.stopped ≡ stopped }
-    ensures digits { let b = opened.now.book in Digits (S.Scale.meaning b.scale) (shape b.layout) (ledger b.table) result }
+    ensures digits { let b = book.now in Digits (S.Scale.meaning b.scale) (shape b.layout) (ledger b.table) result }
 {
     Report {
         standing,
-        free: free_digits(opened),
+        free: free_digits(book),
         stopped,
-        heads: opened.heads(),
-        counters: opened.counters(),
-        settled: settled_digits(opened, one),
+        heads: book.heads(),
+        counters: book.counters(),
+        settled: settled_digits(book),
     }
 }
 
 // Posts tie `i` of the file.
-fn post_nth<S: Scale>(opened: &mut Open<S>, file: &[u8], i: usize) -> Result<u8, PostFault>
+fn post_nth<S: Scale>(book: &mut Book<S, Open>, file: &[u8], i: usize) -> Result<u8, PostFault>
     requires formed { WellFormed file.now }
     requires within { i + 1 < entries file.now }
-    requires ready { Ready S.Scale.meaning opened.old.book }
-    ensures ready { Ready S.Scale.meaning opened.new.book }
-    ensures answer { PostedTo S.Scale.meaning opened.old.book (nth_equation (equations file.now) i) (replicate 64 0) result }
-    ensures book { Posted S.Scale.meaning opened.old.book (nth_equation (equations file.now) i) result opened.new.book }
+    ensures answer { PostedTo S.Scale.meaning book.old (nth_equation (equations file.now) i) (replicate 64 0) result }
+    ensures book { Posted S.Scale.meaning book.old (nth_equation (equations file.now) i) result book.new }
 {
     let mut room = [Term {
         head: 0,
@@ -74,17 +67,16 @@ fn post_nth<S: Scale>(opened: &mut Open<S>, file: &[u8], i: usize) -> Result<u8,
         return unreachable();
     };
     let mut multipliers = [0; 64];
-    opened.post(&tie, &mut multipliers)
+    book.post(&tie, &mut multipliers)
 }
 
 // How many digits the standing ties leave free.
-fn free_digits<S: Scale>(opened: &Open<S>) -> u16
-    requires { Ready S.Scale.meaning opened.now.book }
-    ensures { let b = opened.now.book in Count (S.Scale.meaning b.scale) (shape b.layout) (ledger b.table) result }
+fn free_digits<S: Scale>(book: &Book<S, Open>) -> u16
+    ensures { let b = book.now in Count (S.Scale.meaning b.scale) (shape b.layout) (ledger b.table) result }
 {
     // a sheet has 32 × 33 numbers at most
     let mut sheet = [0; 1056];
-    match opened.sheet(&mut sheet) {
+    match book.sheet(&mut sheet) {
         Ok(free) => free,
         Err(_) => unreachable(),
     }

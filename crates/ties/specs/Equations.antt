@@ -1,6 +1,6 @@
 -- The equations that ties state, and which assignments meet them.
 use Rattle.std.specs.Prelude.{◌≡◌, ℕ, ◌^◌, ◌<◌, ◌≤◌, List, [], length, slice_index_or}
-use Rattle.std.specs.List.{AllByRecursion}
+use Rattle.std.specs.List.{All}
 use Rattle.scale.specs.Meaning.{Meaning, base, summed}
 use Rattle.ties.specs.declared.tie.Term.{Term}
 use Rattle.ties.specs.declared.tie.Tie.{Tie}
@@ -40,7 +40,7 @@ abbrev pub Meets : Meaning → Shape → Equation → Assignment → Type 0
 Meets m s e x = depth s e ≤ m.level (value m e x)
 
 abbrev pub MeetsAll : Meaning → Shape → List Equation → Assignment → Type 0
-MeetsAll m s es x = AllByRecursion (λ e. Meets m s e x) es
+MeetsAll m s es x = All (λ e. Meets m s e x) es
 
 -- an assignment that meets them all
 abbrev pub Solves : Meaning → Shape → List Equation → Assignment → Type 0

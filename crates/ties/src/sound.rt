@@ -13,14 +13,14 @@ use crate::tie::Tie;
 use scale::{Scale, step_power};
 
 // A tie that passed the checks, with the scale and the layout that it passed them for.
-pub struct SoundTie<'a, S: Scale> {
-    pub scale: &'a S,
-    pub layout: &'a Layout,
-    pub tie: Tie<'a>,
+pub struct SoundTie<'s, 't, S: Scale> {
+    pub scale: &'s S,
+    pub layout: &'s Layout,
+    pub tie: Tie<'t>,
     pub ghost sound: { Sound (S.Scale.meaning scale.now) (shape layout.now) (equation tie) } by { Prim.hlevel (props, Above_prop) },
 }
 
-impl<S: Scale> SoundTie<'_, S> {
+impl<S: Scale> SoundTie<'_, '_, S> {
     // What raises the tie to full length: a power of the step.
     pub fn raise(&self) -> u32
         ensures { let m = S.Scale.meaning self.now.scale.now in result ≡ power m (digits m - depth (shape self.now.layout.now) (equation self.now.tie)) }
@@ -31,7 +31,7 @@ impl<S: Scale> SoundTie<'_, S> {
 }
 
 // A derive would ask it of the scale too, which is only borrowed.
-impl<S: Scale> Drop for SoundTie<'_, S> {
+impl<S: Scale> Drop for SoundTie<'_, '_, S> {
     fn drop(self) {
         let SoundTie {
             scale: _,

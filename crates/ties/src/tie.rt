@@ -28,13 +28,13 @@ pub struct Tie<'a> {
     pub terms: &'a [Term],
 }
 
-impl Tie<'_> {
+impl<'t> Tie<'t> {
     // The checks on a tie, each over all terms before the next.
-    pub fn check<'a, S: Scale>(
-        &'a self,
-        scale: &'a S,
-        layout: &'a Layout,
-    ) -> Result<SoundTie<'a, S>, TieFault>
+    pub fn check<'s, S: Scale>(
+        &self,
+        scale: &'s S,
+        layout: &'s Layout,
+    ) -> Result<SoundTie<'s, 't, S>, TieFault>
         ensures { let m = S.Scale.meaning scale.now in let s = shape layout.now in let e = equation self.now in MatchResult result (λ t. Sound m s e × (t.tie ≡ self.now) × (t.scale.now ≡ scale.now) × (t.layout.now ≡ layout.now)) (Faulty m s e) }
     {
         if self.target >= layout.counters() {

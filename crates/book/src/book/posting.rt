@@ -1,8 +1,7 @@
-ghost use Rattle.book.specs.Opening.{Ready};
 ghost use Rattle.book.specs.Posting.{Listed, Posted, PostedTo};
 ghost use Rattle.ties.specs.Equations.{equation};
 
-use crate::book::Book;
+use crate::book::{Book, Open};
 use crate::dividing::quotient_of;
 use crate::evidence::refute;
 use crate::fault::PostFault;
@@ -11,12 +10,10 @@ use crate::taking::take_in;
 use scale::Scale;
 use ties::tie::Tie;
 
-impl<S: Scale> Book<S> {
-    // Posts a tie, and answers how many digits it fixed. A tie that contradicts those standing is refused, and the
-    // list then begins with one multiplier for each of them in order and one for the refused tie.
-    pub(crate) fn post(&mut self, tie: &Tie, multipliers: &mut [u32]) -> Result<u8, PostFault>
-        requires { Ready S.Scale.meaning self.old }
-        ensures ready { Ready S.Scale.meaning self.new }
+impl<S: Scale> Book<S, Open> {
+    // Posts a tie, and answers how many digits it fixed. A tie that contradicts those standing is refused, and
+    // `multipliers`, of 64 numbers or more, then begins with one for each of them in order and one for the tie.
+    pub fn post(&mut self, tie: &Tie, multipliers: &mut [u32]) -> Result<u8, PostFault>
         ensures answer { PostedTo S.Scale.meaning self.old (equation tie.now) multipliers.old result }
         ensures book { Posted S.Scale.meaning self.old (equation tie.now) result self.new }
         ensures list { Listed S.Scale.meaning self.old (equation tie.now) result multipliers.old multipliers.new }

@@ -1,4 +1,3 @@
-ghost use Rattle.book.specs.Opening.{Ready};
 ghost use Rattle.book.specs.Querying.{QueriedFrom, QueryStopped};
 ghost use Rattle.std.specs.Result.{MatchResult};
 ghost use Rattle.ties.specs.Equations.{equation};
@@ -11,11 +10,10 @@ use scale::Scale;
 use ties::fault::TieFault;
 use ties::tie::Tie;
 
-impl<S: Scale> Book<S> {
+impl<S: Scale, P> Book<S, P> {
     // Answers the value of a tie at the point, and how many of its digits are the same at all assignments that meet
     // the standing ties. The tie is not posted.
-    pub(crate) fn query(&self, tie: &Tie) -> Result<Reading, TieFault>
-        requires { Ready S.Scale.meaning self.now }
+    pub fn query(&self, tie: &Tie) -> Result<Reading, TieFault>
         ensures { let b = self.now in let e = equation tie.now in MatchResult result (QueriedFrom S.Scale.meaning b e) (QueryStopped S.Scale.meaning b e) }
     {
         tie.check(&self.scale, &self.layout)?;

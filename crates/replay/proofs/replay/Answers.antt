@@ -18,9 +18,9 @@ none =
 pub loop-call-preserved : goal.loop-call-preserved
 loop-call-preserved g c =
     let meaning = g.S.Scale.meaning in
-    let start = c.in_ok-book.book.book in
-    let before = c.loop-call.book.book in
-    let new = c.perform.new.book.book in
+    let start = c.in_ok-book.book in
+    let before = c.loop-call.book in
+    let new = c.perform.new.book in
     let inv = c.loop-call.invariant in
     let done = c.in_ok-perform.ensures in
     let calls = c.args.calls.now in
@@ -28,26 +28,26 @@ loop-call-preserved g c =
     let a = c.in_ok-perform.field-0 in
     let step : Step (meaning start.scale) (shape start.layout) (place_of before) (get_or calls i none) a (place_of new) =
     subst₂ (λ (m : Meaning) (s : Shape). Step m s (place_of before) (get_or calls i none) a (place_of new))
-    (ap meaning inv.1) (ap shape inv.2) done.performed.2
+    (ap meaning inv.same_scale) (ap shape inv.same_layout) done.2
     in
     let ran =
     run_more (meaning start.scale) (shape start.layout) (place_of start) (take i calls) (vec_items c.loop-call.answers)
-    (place_of before) (place_of new) (get_or calls i none) a inv.5 step
-    in (
-      done.ready,
-      done.performed.0 ∙ inv.1,
-      done.performed.1 ∙ inv.2,
-      c.push_reserved.ensures.len ∙ ap (λ n. n + 1) inv.3,
-      omega (arith, c.push_reserved.ensures.capacity, inv.4),
-      subst₂ (λ (cs : List Call) (rs : List Answer). Run (meaning start.scale) (shape start.layout) (place_of start) cs rs (place_of new))
-          (sym (take_more calls i none c.loop-call-test.true)) (sym c.push_reserved.ensures.items) ran,
-    )
+    (place_of before) (place_of new) (get_or calls i none) a inv.ran step
+    in
+    record {
+      same_scale = done.0 ∙ inv.same_scale;
+      same_layout = done.1 ∙ inv.same_layout;
+      one_each = c.push_reserved.ensures.len ∙ ap (λ n. n + 1) inv.one_each;
+      room = omega (arith, c.push_reserved.ensures.capacity, inv.room);
+      ran = subst₂ (λ (cs : List Call) (rs : List Answer). Run (meaning start.scale) (shape start.layout) (place_of start) cs rs (place_of new))
+          (sym (take_more calls i none c.loop-call-test.true)) (sym c.push_reserved.ensures.items) ran;
+    }
 
 pub returns : goal.returns
 returns g c =
     let meaning = g.S.Scale.meaning in
     let opened = c.in_ok-book.ensures in
-    let start = c.in_ok-book.book.book in
+    let start = c.in_ok-book.book in
     let calls = c.args.calls.now in
     let inv = c.loop-call.invariant in
     let end : c.loop-call.call-index ≡ length calls = omega (arith, c.loop-call-test.false) in
@@ -56,7 +56,7 @@ returns g c =
     in
     let rs = vec_items c.loop-call.answers in
     let s : Shape = record { heads = c.args.heads; widths = c.args.widths.now } in
-    let last = place_of c.loop-call.book.book in
+    let last = place_of c.loop-call.book in
     record {
       sized = opened.sized;
       within = opened.within;
@@ -64,5 +64,5 @@ returns g c =
       last = last;
       nothing = opened.nothing;
       run = subst₂ (λ (m : Meaning) (q : Shape). Run m q (place_of start) calls rs last) (ap meaning opened.same_scale) opened.same_shape
-          (subst (λ (cs : List Call). Run (meaning start.scale) (shape start.layout) (place_of start) cs rs last) whole inv.5);
+          (subst (λ (cs : List Call). Run (meaning start.scale) (shape start.layout) (place_of start) cs rs last) whole inv.ran);
     }

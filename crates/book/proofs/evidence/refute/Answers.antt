@@ -1,6 +1,6 @@
 use Rattle.std.proofs.Common.{◌≡◌, ℕ, suc, ◌-◌, ◌<◌, ◌≤◌, List, [], ◌∷◌, ◌++◌, map, length, get_or, set, replicate, vec_items, sym, refl, ap, ◌∙◌, subst, ap₂, arith, length-append, length-set, get_or-set_other, get_or-set_same}
 use lib.ListN.{length-map}
-use Rattle.std.proofs.ByRecursion.{All-push}
+use Rattle.std.proofs.lemmas.List.Elements.{All-push}
 use Rattle.std.proofs.lemmas.List.{get_or_default}
 use Rattle.scale.specs.Meaning.{Code, digits, power}
 use Rattle.scale.proofs.Codes.{power_code}

@@ -2,21 +2,15 @@ use Rattle.std.proofs.Common.{◌≡◌, ℕ, List, vec_items, sym, refl, ◌∙
 use Rattle.std.specs.Vec.{with_items}
 use Rattle.std.proofs.lemmas.List.{with_items_is}
 use Rattle.ties.specs.Equations.{equation}
-use Rattle.ties.specs.Layouts.{shape}
 use Rattle.book.specs.Drawing.{DrawStopped, DrawnFrom}
 use Rattle.book.specs.Posting.{Listed, PostedTo}
-use Rattle.replay.specs.declared.answer.Answer.TheVariants as answer
-use Rattle.replay.specs.declared.call.Call.{Call}
-use Rattle.replay.specs.Runs.{Step}
-use Rattle.replay.specs.Performed.{place_of}
 use Rattle.replay.proofs.Running.{post_step, query_step, sheet_step, withdraw_step}
 use Rattle.replay.proofs.performing.perform.Goals as goal
 
 pub returns-in_ok-list-in-Post : goal.returns-in_ok-list-in-Post
 returns-in_ok-list-in-Post g c =
     let meaning = g.S.Scale.meaning in
-    let b = c.args.book.now.book in
-    let new = c.post-answer.new.self.book in
+    let b = c.args.book.now in
     let t = c.in-Post.tie in
     let list = c.in-Post.numbers in
     let r = c.post-answer.result in
@@ -25,57 +19,25 @@ returns-in_ok-list-in-Post g c =
     let held : vec_items v ≡ c.post-answer.new.multipliers =
     with_items_is c.in_ok-list-in-Post.list c.post-answer.new.multipliers (c.post-answer.auto.multipliers ∙ c.deref_mut.ensures.len)
     in
-    let step =
-    post_step meaning b new t list r v
+    rw c.in-Post.is
+    (post_step meaning b c.post-answer.new.self t list r v
     (subst (λ (ys : List ℕ). PostedTo meaning b (equation t) ys r) handed c.post-answer.ensures.answer)
     c.post-answer.ensures.book
-    (subst₂ (λ (ys zs : List ℕ). Listed meaning b (equation t) r ys zs) handed (sym held) c.post-answer.ensures.list)
-    in
-    record {
-      ready = c.post-answer.ensures.ready;
-      performed = (
-        step.0,
-        step.1,
-        subst (λ (k : Call). Step (meaning b.scale) (shape b.layout) (place_of b) k (answer.Post r v) (place_of new)) (sym c.in-Post.is) step.2,
-      );
-    }
+    (subst₂ (λ (ys zs : List ℕ). Listed meaning b (equation t) r ys zs) handed (sym held) c.post-answer.ensures.list))
 
 pub returns-in-Withdraw : goal.returns-in-Withdraw
 returns-in-Withdraw g c =
-    let meaning = g.S.Scale.meaning in
-    let b = c.args.book.now.book in
-    let new = c.withdraw.new.self.book in
-    let step = withdraw_step meaning b new c.withdraw.result c.withdraw.ensures.book in
-    record {
-      ready = c.withdraw.ensures.ready;
-      performed = (
-        step.0,
-        step.1,
-        subst (λ (k : Call). Step (meaning b.scale) (shape b.layout) (place_of b) k (answer.Withdraw c.withdraw.result) (place_of new))
-            (sym c.in-Withdraw.is) step.2,
-      );
-    }
+    rw c.in-Withdraw.is (withdraw_step g.S.Scale.meaning c.args.book.now c.withdraw.new.self c.withdraw.result c.withdraw.ensures)
 
 pub returns-in-Query : goal.returns-in-Query
 returns-in-Query g c =
-    let meaning = g.S.Scale.meaning in
-    let b = c.args.book.now.book in
-    let r = c.query.result in
-    record {
-      ready = c.requires;
-      performed = (
-        refl,
-        refl,
-        subst (λ (k : Call). Step (meaning b.scale) (shape b.layout) (place_of b) k (answer.Query r) (place_of b)) (sym c.in-Query.is)
-            (query_step meaning b c.in-Query.tie r c.query.ensures),
-      );
-    }
+    rw c.in-Query.is
+    (refl, refl, query_step g.S.Scale.meaning c.args.book.now c.in-Query.tie c.query.result c.query.ensures)
 
 pub returns-in_ok-list-in-Sheet : goal.returns-in_ok-list-in-Sheet
 returns-in_ok-list-in-Sheet g c =
     let meaning = g.S.Scale.meaning in
-    let b = c.args.book.now.book in
-    let list = c.in-Sheet.numbers in
+    let b = c.args.book.now in
     let r = c.sheet-answer.result in
     let v = with_items c.in_ok-list-in-Sheet.list c.sheet-answer.new.list in
     let handed = c.deref_mut-in-Sheet.ensures.value ∙ c.in_ok-list-in-Sheet.ensures.items in
@@ -85,12 +47,4 @@ returns-in_ok-list-in-Sheet g c =
     let drawn =
     subst₂ (λ (ys zs : List ℕ). MatchResult r (DrawnFrom meaning b ys zs) (λ _. DrawStopped b ys zs)) handed (sym held) c.sheet-answer.ensures
     in
-    record {
-      ready = c.requires;
-      performed = (
-        refl,
-        refl,
-        subst (λ (k : Call). Step (meaning b.scale) (shape b.layout) (place_of b) k (answer.Sheet r v) (place_of b)) (sym c.in-Sheet.is)
-            (sheet_step meaning b list r v drawn),
-      );
-    }
+    rw c.in-Sheet.is (refl, refl, sheet_step meaning b c.in-Sheet.numbers r v drawn)

@@ -6,7 +6,7 @@ use Rattle.report.proofs.posting.free_digits.Goals as goal
 -- 1056 numbers are enough for any sheet
 pub unreachable-requires : goal.unreachable-requires
 unreachable-requires g c =
-    let layout = c.args.opened.now.book.layout in
+    let layout = c.args.book.now.layout in
     let n = places (shape layout) in
     let most : n ≤ 32 = places_most (shape layout) (layout_sized layout) in
     let next : n + 1 ≤ 33 = omega arith in

@@ -12,12 +12,11 @@ unreachable-requires g c =
 
 pub returns : goal.returns
 returns g c =
-    let b = c.args.opened.now.book in
+    let b = c.args.book.now in
     let r = c.post.result in
     let nth = equations_at c.args.file.now c.args.i _ c.requires.within in
     let e = c.in-Some-tie.ensures.1 ∙ c.in-Some.ensures.equation ∙ sym nth in
     record {
-      ready = c.post.ensures.ready;
       answer = subst (λ (x : Equation). PostedTo g.S.Scale.meaning b x (replicate 64 0) r) e c.post.ensures.answer;
-      book = subst (λ (x : Equation). Posted g.S.Scale.meaning b x r c.post.new.self.book) e c.post.ensures.book;
+      book = subst (λ (x : Equation). Posted g.S.Scale.meaning b x r c.post.new.self) e c.post.ensures.book;
     }

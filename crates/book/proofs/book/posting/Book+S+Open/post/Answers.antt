@@ -1,0 +1,93 @@
+use Rattle.std.proofs.Common.{◌<◌, [], ◌∷◌, length, vec_items, sym, refl, subst, arith, length-append}
+use Rattle.scale.specs.Meaning.{Code}
+use Rattle.ties.specs.Equations.{equation}
+use Rattle.ties.specs.Layouts.{shape}
+use Rattle.book.specs.Measures.{Measures}
+use Rattle.book.specs.Standing.{ledger}
+use Rattle.book.proofs.Books.{ledger_length, rows_sheet}
+use Rattle.book.proofs.Coding.{rest_code}
+use Rattle.book.proofs.Posts.{accepted, contradictory, enough_free, shown, taken_stands}
+use Rattle.book.proofs.book.posting.Book+S+Open.post.Goals as goal
+
+pub measure-measured-requires : goal.measure-measured-requires
+measure-measured-requires g c =
+    let rows = rows_sheet g.met.S.Scale.lawful c.self.invariant _ c.deref.ensures.value in
+    record { sound = c.in_ok-check.ensures.0; codes = rows.0; size = rows.1 }
+
+pub quotient_of-requires : goal.quotient_of-requires
+quotient_of-requires g c =
+    let b = c.self.inside in
+    let rows = rows_sheet g.met.S.Scale.lawful c.self.invariant _ c.deref.ensures.value in
+    let meas = c.measure-measured.ensures in (
+      subst (Code (g.S.Scale.meaning b.scale)) (sym meas.missing)
+          (rest_code _ (g.met.S.Scale.lawful b.scale) (shape b.layout) (equation c.args.tie.now) c.in_ok-check.ensures.0 _ rows.0),
+      meas.pivots.formed.divisor,
+    )
+
+pub take_in-requires-clause-codes : goal.take_in-requires-clause-codes
+take_in-requires-clause-codes g c = (rows_sheet g.met.S.Scale.lawful c.self.invariant _ refl).0
+
+pub take_in-requires-clause-size : goal.take_in-requires-clause-size
+take_in-requires-clause-size g c = (rows_sheet g.met.S.Scale.lawful c.self.invariant _ refl).1
+
+pub take_in-requires-clause-free : goal.take_in-requires-clause-free
+take_in-requires-clause-free g c =
+    let b = c.self.inside in
+    let m = g.S.Scale.meaning b.scale in
+    let s = shape b.layout in
+    let e = equation c.args.tie.now in
+    let d = c.measure-measured.result in
+    let meas : Measures m s e (vec_items b.table.rows) d = rw (← c.deref.ensures.value) c.measure-measured.ensures in
+    enough_free m (g.met.S.Scale.lawful b.scale) s b.table c.self.invariant.within c.self.invariant.stands e c.in_ok-check.ensures.0 d meas c.in-Some.ensures.0
+
+pub invariant_of-self : goal.invariant_of-self
+invariant_of-self g c =
+    let b = c.self.inside in
+    let ready = c.self.invariant in
+    let took = c.take_in.ensures in
+    record {
+      within = ready.within;
+      stands = taken_stands (g.S.Scale.meaning b.scale) (g.met.S.Scale.lawful b.scale) (shape b.layout) b.table ready.within ready.stands
+          (equation c.args.tie.now) c.take_in.new.table c.take_in.result took;
+      room = omega (arith, took.room, ready.room);
+    }
+
+pub returns-in-Some-clause-answer : goal.returns-in-Some-clause-answer
+returns-in-Some-clause-answer g c =
+    let b = c.self.inside in
+    let ready = c.self.invariant in
+    let room : length (ledger b.table) < 64 = omega (arith, ledger_length b.table, c.len.ensures, c.if-len-ge64.false) in
+    rw (← c.self.view_is) (
+      c.if-multipliers-lt64.false,
+      accepted (g.S.Scale.meaning b.scale) (g.met.S.Scale.lawful b.scale) (shape b.layout) b.table c.take_in.new.table
+          (equation c.args.tie.now) c.take_in.result ready.within ready.stands c.in_ok-check.ensures.0 room c.take_in.ensures,
+    )
+
+pub returns-in-None-clause-answer : goal.returns-in-None-clause-answer
+returns-in-None-clause-answer g c =
+    let b = c.self.inside in
+    let m = g.S.Scale.meaning b.scale in
+    let s = shape b.layout in
+    let e = equation c.args.tie.now in
+    let d = c.measure-measured.result in
+    let sound = c.in_ok-check.ensures.0 in
+    let ready = c.self.invariant in
+    let meas : Measures m s e (vec_items b.table.rows) d = rw (← c.deref.ensures.value) c.measure-measured.ensures in
+    rw (← c.self.view_is) (
+      c.if-multipliers-lt64.false,
+      sound,
+      omega (arith, ledger_length b.table, c.len.ensures, c.if-len-ge64.false),
+      contradictory m (g.met.S.Scale.lawful b.scale) s b.table ready.within ready.stands e sound d meas c.in-None.ensures,
+    )
+
+pub returns-in-None-clause-list : goal.returns-in-None-clause-list
+returns-in-None-clause-list g c =
+    let b = c.self.inside in
+    let e = equation c.args.tie.now in
+    let ready = c.self.invariant in
+    rw (← c.self.view_is) (
+      shown (g.S.Scale.meaning b.scale) (g.met.S.Scale.lawful b.scale) (shape b.layout) b.table ready.within ready.stands e
+          c.refute.new.multipliers c.in_ok-check.ensures.0
+          (omega (arith, ledger_length b.table, c.len.ensures, c.if-len-ge64.false, c.refute.auto.multipliers, c.if-multipliers-lt64.false)) c.refute.ensures.0,
+      λ i h. c.refute.ensures.1 i (omega (arith, length-append (ledger b.table) (e ∷ []))),
+    )
