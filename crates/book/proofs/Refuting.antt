@@ -222,7 +222,7 @@ module _ (m : Meaning) (l : Laws m) (s : Shape) where
       divisor_is =
           dot_is m l s (equation_of tie) stepped.sound old old_codes (N + tie.pivot.number * N) ∙ sym stepped.pivots.divisor
 
-      against_is : against m s r tie ≡ (dot R N (coded m l r 0) (olds tie.pivot.number)).0
+      against_is : against m s r tie.pivot ≡ (dot R N (coded m l r 0) (olds tie.pivot.number)).0
       against_is =
           summed_sum m l N _ _
           (λ j h.
@@ -236,7 +236,7 @@ module _ (m : Meaning) (l : Laws m) (s : Shape) where
       pub settles : Sound m s (equation_of (nth_standing ks k)) × Formed m N (nth_standing ks k).pivot
       settles = (stepped.sound, stepped.pivots.formed)
 
-      pub has_quotient : m.level (nth_standing ks k).pivot.divisor ≤ m.level (against m s r (nth_standing ks k))
+      pub has_quotient : m.level (nth_standing ks k).pivot.divisor ≤ m.level (against m s r (nth_standing ks k).pivot)
       has_quotient =
           let low =
           factor (codes_valued m l) N a tie.pivot.number cs olds news turn (coded m l r 0) so_far.before.3
@@ -247,7 +247,7 @@ module _ (m : Meaning) (l : Laws m) (s : Shape) where
           (q by : ℕ) (r' : List ℕ)
           → k < n
           → k < length ys
-          → Quotient m (against m s r (nth_standing ks k)) (nth_standing ks k).pivot.divisor q
+          → Quotient m (against m s r (nth_standing ks k).pivot) (nth_standing ks k).pivot.divisor q
           → by ≡ m.product (m.negative q) (power m (digits m - depth s (equation_of (nth_standing ks k))))
           → Codes m r'
           → Shares m s (λ h c. m.product by (factor_at m (equation_of (nth_standing ks k)).terms h c)) r r'

@@ -3,26 +3,22 @@
 ghost use Rattle.std.specs.Prelude.{◌≡◌, ℕ, ◌<◌, ◌≤◌, length, slice_index};
 ghost use Rattle.book.specs.Rows.{Codes, row_of};
 ghost use Rattle.scale.specs.Meaning.{Code};
-ghost use Rattle.ties.specs.Equations.{term_at, total};
-ghost use Rattle.ties.specs.Faults.{Exists, Passes};
+ghost use Rattle.ties.specs.Equations.{total};
 ghost use Rattle.ties.specs.Layouts.{places, shape};
 
 use scale::Scale;
-use ties::layout::Layout;
-use ties::tie::Term;
+use ties::sound::SoundTie;
 
-// The sum of factor times code, over the terms, at a row.
-pub fn total_at<S: Scale>(scale: &S, layout: &Layout, terms: &[Term], row: &[u32]) -> u32
-    requires exist { Passes (Exists (shape layout.now) terms.now) (length terms.now) }
-    requires factors { (i : ℕ) → i < length terms.now → Code (S.Scale.meaning scale.now) (term_at terms.now i).factor }
-    requires codes { Codes (S.Scale.meaning scale.now) row.now }
-    requires whole { places (shape layout.now) ≤ length row.now }
-    ensures { let m = S.Scale.meaning scale.now in Code m result × (result ≡ total m terms.now (row_of (shape layout.now) row.now)) }
+// The sum of factor times code, over a tie's terms, at a row.
+pub fn total_at<S: Scale>(tie: &SoundTie<S>, row: &[u32]) -> u32
+    requires codes { Codes (S.Scale.meaning tie.now.scale.now) row.now }
+    requires whole { places (shape tie.now.layout.now) ≤ length row.now }
+    ensures { let m = S.Scale.meaning tie.now.scale.now in Code m result × (result ≡ total m tie.now.tie.terms.now (row_of (shape tie.now.layout.now) row.now)) }
 {
     let mut total = 0;
-    for term in terms {
-        let code = row[layout.place(term.head, term.counter)];
-        total = scale.sum(total, scale.product(term.factor, code));
+    for term in tie.tie.terms {
+        let code = row[tie.layout.place(term.head, term.counter)];
+        total = tie.scale.sum(total, tie.scale.product(term.factor, code));
     }
     total
 }

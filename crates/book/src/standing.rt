@@ -1,8 +1,11 @@
 // A standing tie.
 
+ghost use Rattle.std.specs.Prelude.{◌≡◌};
+ghost use Rattle.ties.specs.Equations.{equation};
+
 use crate::pivot::Pivot;
 use arrayvec::ArrayVec;
-use ties::tie::Term;
+use ties::tie::{Term, Tie};
 
 // A tie, and the pivot step that it made: the pivot as it was, by how much of it the point was moved, and the free
 // digits before the step.
@@ -14,4 +17,18 @@ pub struct Standing {
     pub pivot: Pivot,
     pub shift: u32,
     pub free: u16,
+}
+
+impl Standing {
+    ghost use Rattle.book.specs.Standing.{equation_of};
+
+    pub fn tie(&self) -> Tie<'_>
+        ensures { equation result ≡ equation_of self.now }
+    {
+        Tie {
+            target: self.target,
+            right: self.right,
+            terms: &self.terms,
+        }
+    }
 }

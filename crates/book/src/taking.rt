@@ -6,7 +6,6 @@ ghost use Rattle.book.specs.Rows.{Codes};
 ghost use Rattle.book.specs.Standing.{GivenBack, Stepped, TakenIn};
 ghost use Rattle.scale.specs.Meaning.{Quotient, digits};
 ghost use Rattle.ties.specs.Equations.{equation};
-ghost use Rattle.ties.specs.Faults.{Sound};
 ghost use Rattle.ties.specs.Layouts.{places, shape};
 
 use crate::measured::Measured;
@@ -15,34 +14,26 @@ use crate::table::Table;
 use arrayvec::ArrayVec;
 use scale::Scale;
 use ties::layout::Layout;
-use ties::tie::Tie;
+use ties::sound::SoundTie;
 
 // Makes the pivot step of a tie, which moves the point by `shift` times the pivot, and answers the digits that it
 // fixes.
-pub fn take_in<S: Scale>(
-    scale: &S,
-    layout: &Layout,
-    table: &mut Table,
-    tie: &Tie,
-    measured: Measured,
-    shift: u32,
-) -> u8
-    requires sound { Sound (S.Scale.meaning scale.now) (shape layout.now) (equation tie.now) }
-    requires codes { Codes (S.Scale.meaning scale.now) table.old.rows.items }
-    requires size { length table.old.rows.items ≡ places (shape layout.now) + places (shape layout.now) * places (shape layout.now) }
-    requires measures { Measures (S.Scale.meaning scale.now) (shape layout.now) (equation tie.now) table.old.rows.items measured }
-    requires quotient { Quotient (S.Scale.meaning scale.now) measured.rest measured.pivot.divisor shift }
+pub fn take_in<S: Scale>(tie: &SoundTie<S>, table: &mut Table, measured: Measured, shift: u32) -> u8
+    requires codes { Codes (S.Scale.meaning tie.now.scale.now) table.old.rows.items }
+    requires size { let n = places (shape tie.now.layout.now) in length table.old.rows.items ≡ n + n * n }
+    requires measures { Measures (S.Scale.meaning tie.now.scale.now) (shape tie.now.layout.now) (equation tie.now.tie) table.old.rows.items measured }
+    requires quotient { Quotient (S.Scale.meaning tie.now.scale.now) measured.rest measured.pivot.divisor shift }
     requires room { vec_len table.old.standing < vec_capacity table.old.standing }
-    requires free { digits (S.Scale.meaning scale.now) - (S.Scale.meaning scale.now).level measured.pivot.divisor ≤ table.old.free }
-    ensures { TakenIn (S.Scale.meaning scale.now) (shape layout.now) (equation tie.now) table.old table.new result }
+    requires free { let m = S.Scale.meaning tie.now.scale.now in digits m - m.level measured.pivot.divisor ≤ table.old.free }
+    ensures { TakenIn (S.Scale.meaning tie.now.scale.now) (shape tie.now.layout.now) (equation tie.now.tie) table.old table.new result }
 {
     let Measured { pivot, rest: _ } = measured;
-    let fixed = pivot.fixed(scale);
-    pivot.turn(scale, &mut table.rows, shift);
+    let fixed = pivot.fixed(tie.scale);
+    pivot.turn(tie.scale, &mut table.rows, shift);
     table.standing.push_reserved(Standing {
-        target: tie.target,
-        right: tie.right,
-        terms: ArrayVec::try_from(tie.terms).unwrap(),
+        target: tie.tie.target,
+        right: tie.tie.right,
+        terms: ArrayVec::try_from(tie.tie.terms).unwrap(),
         pivot,
         shift,
         free: table.free,

@@ -2,30 +2,22 @@ use Rattle.std.proofs.Common.{◌≡◌, ℕ, ◌+◌, ◌-◌, ◌*◌, ◌<◌
 use Rattle.std.proofs.lemmas.Result.{MatchResult-at_ok}
 use Rattle.scale.specs.Meaning.{Code, Quotient, digits, power}
 use Rattle.scale.proofs.Codes.{power_code}
-use Rattle.ties.specs.Equations.{depth, equation, total}
+use Rattle.ties.specs.Equations.{depth, equation}
 use Rattle.ties.specs.Layouts.{places, shape}
-use Rattle.book.specs.Sheets.{generator_of}
-use Rattle.book.specs.Standing.{raised}
 use Rattle.book.proofs.Filling.{all_codes, negative_is, part_codes, product_is, sum_is}
 use Rattle.book.proofs.Spots.{cut_at, cut_long, row_inside, total_cut}
 use Rattle.book.proofs.measuring.measure.Goals as goal
 
-pub multiply_out-products-requires-clause-codes : goal.multiply_out-products-requires-clause-codes
-multiply_out-products-requires-clause-codes g c =
-    let m = g.S.Scale.meaning c.args.scale.now in
-    let l = g.met.S.Scale.lawful c.args.scale.now in
-    (c.requires.codes, subst (Code m) (sym c.raise_to-raise.ensures) (power_code m l _))
-
 pub total_at-requires-clause-codes : goal.total_at-requires-clause-codes
 total_at-requires-clause-codes g c =
-    let m = g.S.Scale.meaning c.args.scale.now in
-    let l = g.met.S.Scale.lawful c.args.scale.now in
+    let m = g.S.Scale.meaning c.args.tie.now.scale.now in
+    let l = g.met.S.Scale.lawful c.args.tie.now.scale.now in
     part_codes m l 0 _ c.args.rows.now c.requires.codes
 
 pub slice_bounds-try_from-end : goal.slice_bounds-try_from-end
 slice_bounds-try_from-end g c =
     let n = c.places-n.result in
-    let s = shape c.args.layout.now in
+    let s = shape c.args.tie.now.layout.now in
     let is = c.places-n.ensures.0 in
     let long : length c.args.rows.now ≡ n + n * n = c.requires.size ∙ ap (λ k. k + k * k) (sym is) in
     let below : c.lowest-number.result < n =
@@ -35,29 +27,25 @@ slice_bounds-try_from-end g c =
 
 pub returns : goal.returns
 returns g c =
-    let m = g.S.Scale.meaning c.args.scale.now in
-    let l = g.met.S.Scale.lawful c.args.scale.now in
-    let s = shape c.args.layout.now in
-    let e = equation c.args.tie.now in
+    let m = g.S.Scale.meaning c.args.tie.now.scale.now in
+    let l = g.met.S.Scale.lawful c.args.tie.now.scale.now in
+    let s = shape c.args.tie.now.layout.now in
+    let e = equation c.args.tie.now.tie in
     let rows = c.args.rows.now in
     let ds = c.multiply_out-products.result.items in
     let qs = c.divide.result.items in
     let p = c.lowest-number.result in
-    let raise = c.raise_to-raise.result in
-    let raise_is : raise ≡ power m (digits m - depth s e) = c.raise_to-raise.ensures in
+    let raise = c.raise-raise.result in
+    let raise_is : raise ≡ power m (digits m - depth s e) = c.raise-raise.ensures in
     let raise_code : Code m raise = subst (Code m) (sym raise_is) (power_code m l (digits m - depth s e)) in
-    let right_code = (c.requires.sound.codes (length e.terms) (omega arith)).1 refl in
+    let right_code = (c.args.tie.now.sound.codes (length e.terms) (omega arith)).1 refl in
     let reached =
     product_is m l raise c.total_at.result c.product-reached.result raise_code c.total_at.ensures.0 c.product-reached.ensures
     in
     let right = product_is m l raise e.right c.product.result raise_code right_code c.product.ensures in
     let away = negative_is m l c.product-reached.result c.negative.result reached.0 c.negative.ensures in
     let sum = sum_is m l c.product.result c.negative.result c.sum.result right.0 away.0 c.sum.ensures in
-    let at_point = total_cut m s e.terms rows 0 0 _ c.requires.sound.exist refl c.places-n.ensures.0 in
-    let product : (i : ℕ) → i < places s → get_or ds i 0 ≡ raised m s e (generator_of s rows i) =
-    λ i h.
-    c.multiply_out-products.ensures.products i h ∙ ap (λ p. m.product p (total m e.terms (generator_of s rows i))) raise_is
-    in
+    let at_point = total_cut m s e.terms rows 0 0 _ c.args.tie.now.sound.exist refl c.places-n.ensures.0 in
     let chosen = rw c.deref.ensures.0 at c.lowest-number.ensures in
     let divided = rw c.deref-3.ensures.0 at c.divide.ensures in
     let number : p < places s = omega (arith, chosen.0, c.multiply_out-products.ensures.count) in
@@ -81,9 +69,9 @@ returns g c =
                   quotient_codes = all_codes m l qs (λ i h. (divided.1 i (omega (arith, divided.0))).0);
                 };
             row = λ j h. ap (λ xs. get_or xs j 0) row ∙ cut_at rows _ _ _ j at_is (omega arith);
-            divisor = divisor_is ∙ product p number;
+            divisor = divisor_is ∙ c.multiply_out-products.ensures.products p number;
             divides = λ i h.
-                subst₂ (λ (a b : ℕ). Quotient m a b (get_or qs i 0)) (product i h) (sym divisor_is)
+                subst₂ (λ (a b : ℕ). Quotient m a b (get_or qs i 0)) (c.multiply_out-products.ensures.products i h) (sym divisor_is)
                 (divided.1 i (omega (arith, c.multiply_out-products.ensures.count)));
           };
       missing =

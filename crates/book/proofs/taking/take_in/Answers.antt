@@ -13,18 +13,18 @@ use Rattle.book.proofs.taking.take_in.Goals as goal
 
 pub unwrap-requires : goal.unwrap-requires
 unwrap-requires g c =
-    let s = shape c.args.layout.now in
-    let few = few_terms_lem s _ c.requires.sound.exist c.requires.sound.rise in
-    let most = places_most s (layout_sized c.args.layout.now) in
-    let short : length c.args.tie.now.terms.now ≤ 32 = omega arith in
+    let s = shape c.args.tie.now.layout.now in
+    let few = few_terms_lem s _ c.args.tie.now.sound.exist c.args.tie.now.sound.rise in
+    let most = places_most s (layout_sized c.args.tie.now.layout.now) in
+    let short : length c.args.tie.now.tie.terms.now ≤ 32 = omega arith in
     grind (arith, common_steps)
 
 pub returns : goal.returns
 returns g c =
-    let m = g.S.Scale.meaning c.args.scale.now in
-    let l = g.met.S.Scale.lawful c.args.scale.now in
-    let s = shape c.args.layout.now in
-    let e = equation c.args.tie.now in
+    let m = g.S.Scale.meaning c.args.tie.now.scale.now in
+    let l = g.met.S.Scale.lawful c.args.tie.now.scale.now in
+    let s = shape c.args.tie.now.layout.now in
+    let e = equation c.args.tie.now.tie in
     let k = c.args.measured.pivot in
     let old = c.args.table.now in
     let xs = vec_items old.rows in
@@ -48,7 +48,7 @@ returns g c =
       standing = c.push_reserved.ensures.items;
       stepped =
           record {
-            sound = subst (Sound m s) (sym same) c.requires.sound;
+            sound = subst (Sound m s) (sym same) c.args.tie.now.sound;
             size = ap length rows ∙ c.turn.auto.rows ∙ ap length c.deref_mut.ensures.value ∙ c.requires.size;
             codes = rw rows c.turn.ensures.codes;
             pivots = subst (λ (q : Equation). Pivots m s q xs k) (sym same) pivots;
