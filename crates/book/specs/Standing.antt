@@ -105,9 +105,9 @@ pub record TakenIn (m : Meaning) (s : Shape) (e : Equation) (old new : Table) (f
   pub room : vec_capacity new.standing ≡ vec_capacity old.standing
 
 -- a step is taken back: the rows and the free digits are those before it, and the ties stand as they did
-abbrev pub GivenBack : Meaning → Shape → Standing → Table → Table → Type 0
-GivenBack m s k old new =
-    ((xs : List ℕ) (g : ℕ)
+abbrev pub GivenBack : Meaning → Standing → Table → Table → Type 0
+GivenBack m k old new =
+    ((s : Shape) (xs : List ℕ) (g : ℕ)
     → Codes m xs
     → length xs ≡ places s + places s * places s
     → Stepped m s k xs (vec_items old.rows) g old.free

@@ -6,14 +6,13 @@ ghost use Rattle.book.specs.Rows.{Codes};
 ghost use Rattle.book.specs.Standing.{GivenBack, Stepped, TakenIn};
 ghost use Rattle.scale.specs.Meaning.{Quotient, digits};
 ghost use Rattle.ties.specs.Equations.{equation};
-ghost use Rattle.ties.specs.Layouts.{places, shape};
+ghost use Rattle.ties.specs.Layouts.{Shape, places, shape};
 
 use crate::measured::Measured;
 use crate::standing::Standing;
 use crate::table::Table;
 use arrayvec::ArrayVec;
 use scale::Scale;
-use ties::layout::Layout;
 use ties::sound::SoundTie;
 
 // Makes the pivot step of a tie, which moves the point by `shift` times the pivot, and answers the digits that it
@@ -43,10 +42,11 @@ pub fn take_in<S: Scale>(tie: &SoundTie<S>, table: &mut Table, measured: Measure
 }
 
 // Takes back the step of the tie that stood last.
-pub fn give_back<S: Scale>(scale: &S, layout: &Layout, table: &mut Table, last: &Standing)
-    requires stepped { (xs : List ℕ) × (g : ℕ) × Codes (S.Scale.meaning scale.now) xs × Stepped (S.Scale.meaning scale.now) (shape layout.now) last.now xs table.old.rows.items g table.old.free }
-    ensures { GivenBack (S.Scale.meaning scale.now) (shape layout.now) last.now table.old table.new }
+pub fn give_back<S: Scale>(scale: &S, table: &mut Table, last: &Standing)
+    requires stepped { (s : Shape) × (xs : List ℕ) × (g : ℕ) × Stepped (S.Scale.meaning scale.now) s last.now xs table.old.rows.items g table.old.free }
+    ensures { GivenBack (S.Scale.meaning scale.now) last.now table.old table.new }
 {
-    last.pivot.turn_back(scale, &mut table.rows, last.shift);
+    last.pivot
+        .turn_back(scale, &mut table.rows, last.shift);
     table.free = last.free;
 }
