@@ -137,54 +137,54 @@ module _ (m : Meaning) (l : Laws m) (s : Shape) where
     abbrev e : Equation
     e = equation_of k
 
-    divisor_is : (dot R (places s) (row_of m l s e) (coded_generator old k.pivot)).0 ≡ k.divisor
-    divisor_is = dot_is e step.sound old all (places s + k.pivot * places s) ∙ sym step.divisor
+    divisor_is : (dot R (places s) (row_of m l s e) (coded_generator old k.pivot.number)).0 ≡ k.pivot.divisor
+    divisor_is = dot_is e step.sound old all (places s + k.pivot.number * places s) ∙ sym step.pivots.divisor
 
     divided :
         (a c : ℕ) (A : Coded m)
         → A.0 ≡ a
-        → Quotient m a k.divisor c
-        → mul (dot R (places s) (row_of m l s e) (coded_generator old k.pivot)) (code m l c) ≡ A
+        → Quotient m a k.pivot.divisor c
+        → mul (dot R (places s) (row_of m l s e) (coded_generator old k.pivot.number)) (code m l c) ≡ A
     divided a c A is q =
         same_code m _ _ (ap₂ m.product divisor_is (reading_of m l c q.0) ∙ q.1 ∙ sym is)
 
     pub step_pivoted :
-        Pivoted (codes_valued m l) (places s) (row_of m l s e) k.pivot (λ i. code m l (get_or k.quotients i 0))
+        Pivoted (codes_valued m l) (places s) (row_of m l s e) k.pivot.number (λ i. code m l (get_or k.pivot.quotients.items i 0))
         (coded_generator old) (coded_generator new)
     step_pivoted =
         record {
-          below = step.pivot;
+          below = step.pivots.formed.number;
           divides = λ i h d.
-              divided _ (get_or k.quotients i 0) _ (dot_is e step.sound old all (places s + i * places s))
-              (step.divides i h d);
+              divided _ (get_or k.pivot.quotients.items i 0) _ (dot_is e step.sound old all (places s + i * places s))
+              (step.pivots.divides i h);
           others = λ i j h b d.
-              let q = get_or k.quotients i 0 in
+              let q = get_or k.pivot.quotients.items i 0 in
               same_code m _ _
               (coded_is m l new step.codes (places s + i * places s) j
               ∙ step.turned.others i j h d b
               ∙ sym (
               ap₂ m.sum (coded_is m l old all (places s + i * places s) j)
-              (ap₂ (λ c z. m.product (m.negative c) z) (reading_of m l q (step.divides i h d).0)
-              (coded_is m l old all (places s + k.pivot * places s) j))
+              (ap₂ (λ c z. m.product (m.negative c) z) (reading_of m l q (step.pivots.divides i h).0)
+              (coded_is m l old all (places s + k.pivot.number * places s) j))
               ));
           scaled = λ j b.
               same_code m _ _
-              (coded_is m l new step.codes (places s + k.pivot * places s) j
+              (coded_is m l new step.codes (places s + k.pivot.number * places s) j
               ∙ step.turned.scaled j b
               ∙ sym (
               ap₂ (λ d z. m.product (power m (digits m - m.level d)) z) divisor_is
-              (coded_is m l old all (places s + k.pivot * places s) j)
+              (coded_is m l old all (places s + k.pivot.number * places s) j)
               ));
         }
 
     pub step_quotient :
-        mul (dot R (places s) (row_of m l s e) (coded_generator old k.pivot)) (code m l k.shift)
+        mul (dot R (places s) (row_of m l s e) (coded_generator old k.pivot.number)) (code m l k.shift)
         ≡ add (right_of m l s e) (neg (dot R (places s) (row_of m l s e) (coded m l old 0)))
     step_quotient = divided _ k.shift _ (rest_is e step.sound old all) step.shift
 
     pub step_moved :
         Agree R (places s) (coded m l new 0)
-        (λ j. add (coded m l old 0 j) (mul (code m l k.shift) (coded_generator old k.pivot j)))
+        (λ j. add (coded m l old 0 j) (mul (code m l k.shift) (coded_generator old k.pivot.number j)))
     step_moved j b =
         same_code m _ _
         (point_is m l new step.codes j
@@ -192,5 +192,5 @@ module _ (m : Meaning) (l : Laws m) (s : Shape) where
         ∙ sym (
         ap₂ m.sum (point_is m l old all j)
         (ap₂ m.product (reading_of m l k.shift step.shift.0)
-        (coded_is m l old all (places s + k.pivot * places s) j))
+        (coded_is m l old all (places s + k.pivot.number * places s) j))
         ))

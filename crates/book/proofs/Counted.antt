@@ -1,6 +1,5 @@
 -- The free digits of a table count the solutions of its ties.
-use Rattle.std.proofs.Common.{◌≡◌, ℕ, zero, suc, ◌+◌, ◌-◌, ◌*◌, ◌<◌, ◌≤◌, List, [], ◌∷◌, ◌++◌, length, sym, ap, ◌∙◌, subst, subst₂, le_refl, arith}
-use native.Mathlib.Decide.{ℕ_discrete}
+use Rattle.std.proofs.Common.{◌≡◌, ℕ, zero, suc, ◌+◌, ◌-◌, ◌*◌, ◌<◌, ◌≤◌, List, [], ◌∷◌, ◌++◌, length, sym, ap, subst, subst₂, arith}
 use Rattle.scale.specs.Meaning.{Meaning, Laws, Code, digits}
 use Rattle.scale.proofs.Codes.{power_code}
 use Rattle.ties.specs.Layouts.{Shape, Within, places}
@@ -9,8 +8,8 @@ use Rattle.ties.specs.Faults.{Sound}
 use Rattle.linear.proofs.Counts.{count_more, count_none}
 use Rattle.book.specs.declared.standing.Standing.{Standing}
 use Rattle.book.specs.Sheets.{generator_of}
-use Rattle.book.specs.Standing.{Built, Stepped, equation_of, nth_standing, raised, rest}
-use Rattle.book.proofs.Choosing.{quotient_level}
+use Rattle.book.specs.Standing.{Built, equation_of, nth_standing, raised, rest}
+use Rattle.book.proofs.Choosing.{least, quotient_level}
 use Rattle.book.proofs.Coding.{row_assigns, total_code}
 use Rattle.book.proofs.Exactness.{built_codes, ledger_more, ledger_of, slides, values_level}
 
@@ -49,30 +48,10 @@ module _ (m : Meaning) (l : Laws m) (s : Shape) (within : Within m s) (ks : List
       let k = nth_standing ks n in
       let e = equation_of k in
       let below : n ≤ length ks = omega arith in
-      let all = (built_codes m s ks n old g built.2).0 in
-      let v = m.level k.divisor in
-      let divisor_code : Code m k.divisor =
-      subst (Code m) (sym step.divisor)
-      (l.product_code _ _ (power_code m l _)
-      (total_code m l s e step.sound _ (row_assigns m l s old all (places s + k.pivot * places s))))
-      in
-      let lowest : m.level (raised m s e (generator_of s old k.pivot)) ≡ v = ap m.level (sym step.divisor) in
+      let v = m.level k.pivot.divisor in
       let fell =
-      fall n old g below built.2 (built_count n old g below built.2) e k.pivot v step.sound step.pivot lowest
-      (λ i h. least k old step divisor_code i h (ℕ_discrete i k.pivot))
-      (quotient_level m l _ _ _ divisor_code step.shift)
+      fall n old g below built.2 (built_count n old g below built.2) e k.pivot.number v step.sound
+      step.pivots.formed.number (ap m.level (sym step.pivots.divisor)) (least m l s e old k.pivot step.pivots)
+      (quotient_level m l _ _ _ step.pivots.formed.divisor step.shift)
       in
       subst₂ (Count m s) (sym (ledger_more ks n (omega arith))) (omega (arith, step.free, fell.0)) fell.1
-    where
-      least :
-          (k : Standing) (old : List ℕ)
-          → Stepped m s k old xs built.1 f
-          → Code m k.divisor
-          → (i : ℕ)
-          → i < places s
-          → Dec (i ≡ k.pivot)
-          → m.level k.divisor ≤ m.level (raised m s (equation_of k) (generator_of s old i))
-      least k old step dc i h (yes e) =
-          subst (λ (a : ℕ). m.level k.divisor ≤ m.level a)
-          (step.divisor ∙ ap (λ j. raised m s (equation_of k) (generator_of s old j)) (sym e)) (le_refl (m.level k.divisor))
-      least k old step dc i h (no d) = quotient_level m l _ _ _ dc (step.divides i h d)

@@ -103,7 +103,7 @@ module _ (m : Meaning) (l : Laws m) (s : Shape) (within : Within m s) where
   step_exact es k old new g f all step exact x gives =
       let e = equation_of k in
       let turn =
-      solutions (codes_valued m l) (places s) (row_of m l s e) k.pivot (λ i. code m l (get_or k.quotients i 0))
+      solutions (codes_valued m l) (places s) (row_of m l s e) k.pivot.number (λ i. code m l (get_or k.pivot.quotients.items i 0))
       (coded_generator m l s old) (coded_generator m l s new) (step_pivoted m l s k old new g f all step)
       (coded m l old 0) (coded m l new 0) (flat m l s x) (right_of m l s e) (code m l k.shift)
       (step_quotient m l s k old new g f all step) (step_moved m l s k old new g f all step)

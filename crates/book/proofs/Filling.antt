@@ -1,36 +1,16 @@
 -- Rows that are filled place by place.
-use Rattle.std.proofs.Common.{◌≡◌, ℕ, ◌+◌, ◌-◌, ◌<◌, ◌≤◌, ◌⊎◌, List, length, get_or, set, replicate, sym, refl, ap, ◌∙◌, subst, ap₂, inl, inr, arith, get_or-set_other, get_or-set_same}
+use Rattle.std.proofs.Common.{◌≡◌, ℕ, zero, suc, ◌+◌, ◌<◌, ◌≤◌, ◌⊎◌, List, [], ◌∷◌, ◌++◌, length, get_or, set, take, drop, replicate, sym, ap, ◌∙◌, subst, ap₂, inl, inr, arith, below_more, get_or-set_other, get_or-set_same}
 use native.Mathlib.Decide.{ℕ_discrete}
+use borrow.Rule.Slice.PartMut.{put_mid}
+use Rattle.std.proofs.lemmas.Bool.{cases_lt}
+use Rattle.std.proofs.lemmas.List.{get_or-drop, get_or_append_left, get_or_past, get_or_push, places}
 use Rattle.scale.specs.Meaning.{Meaning, Laws, Code, reading}
 use Rattle.scale.proofs.Codes.{reading_of, zero_code}
 use Rattle.scale.proofs.Levels.{product_zero}
 use Rattle.multipliers.proofs.Concluding.{zeros_read}
-use Rattle.book.specs.Rows.{Codes, Filled}
-use Rattle.book.proofs.Spots.{Order, either_way, first, last, same}
-
-pub filled_none : (at : ℕ) (f : ℕ → ℕ) (xs : List ℕ) → Filled 0 at f xs xs
-filled_none at f xs = ((λ j k. absurd (omega arith)), λ i k. refl)
-
--- one more place
-pub filled_more :
-    (at n : ℕ) (f : ℕ → ℕ) (old cur : List ℕ) (v : ℕ)
-    → at + n < length cur
-    → v ≡ f n
-    → Filled n at f old cur
-    → Filled (n + 1) at f old (set cur (at + n) v)
-filled_more at n f old cur v inside is before = (
-  λ j k. go j k (ℕ_discrete j n),
-  λ i k. get_or-set_other cur (at + n) i v 0 (off i k) ∙ before.1 i (elim k [ inl h ↦ inl h | inr h ↦ inr (omega arith) ]),
-)
-  where
-    off : (i : ℕ) → (i < at) ⊎ (at + (n + 1) ≤ i) → i ≡ at + n → ⊥
-    off i (inl h) e = omega arith
-    off i (inr h) e = omega arith
-
-    go : (j : ℕ) → j < n + 1 → Dec (j ≡ n) → get_or (set cur (at + n) v) (at + j) 0 ≡ f j
-    go j k (yes e) =
-        ap (λ i. get_or (set cur (at + n) v) (at + i) 0) e ∙ get_or-set_same cur (at + n) v 0 inside ∙ is ∙ ap f (sym e)
-    go j k (no d) = get_or-set_other cur (at + n) (at + j) v 0 (λ e. d (omega arith)) ∙ before.0 j (omega arith)
+use Rattle.book.specs.Rows.{Codes}
+use Rattle.book.specs.Turning.{Negatives}
+use Rattle.book.proofs.Spots.{cut_at, cut_long}
 
 -- a list that holds f below n, and one place more
 pub holds_more :
@@ -47,9 +27,72 @@ holds_more n f cur v inside is before j h = go (ℕ_discrete j n)
     go (yes e) = ap (λ i. get_or (set cur n v) i 0) e ∙ get_or-set_same cur n v 0 inside ∙ is ∙ ap f (sym e)
     go (no d) = get_or-set_other cur n j v 0 d ∙ before j (omega arith)
 
--- a row that already holds f
-pub filled_same : (n at : ℕ) (f : ℕ → ℕ) (xs : List ℕ) → ((j : ℕ) → j < n → get_or xs (at + j) 0 ≡ f j) → Filled n at f xs xs
-filled_same n at f xs h = (h, λ i k. refl)
+-- a list that holds f, and one number more at its end
+pub holds_push :
+    (n : ℕ) (f : ℕ → ℕ) (cur new : List ℕ) (v : ℕ)
+    → new ≡ cur ++ (v ∷ [])
+    → length cur ≡ n
+    → v ≡ f n
+    → ((j : ℕ) → j < n → get_or cur j 0 ≡ f j)
+    → (j : ℕ)
+    → j < n + 1
+    → get_or new j 0 ≡ f j
+holds_push n f cur new v pushed long is before =
+    below_more (λ j. get_or new j 0 ≡ f j) n
+    (λ j h. ap (λ xs. get_or xs j 0) pushed ∙ get_or_append_left cur (v ∷ []) 0 j (omega arith) ∙ before j h)
+    (ap (λ xs. get_or xs n 0) pushed ∙ get_or_push cur v 0 n long ∙ is)
+
+-- the first n numbers are written over, and those behind are as they were
+abbrev pub Written : ℕ → (ℕ → ℕ) → List ℕ → List ℕ → Type 0
+Written n f old cur =
+    ((j : ℕ) → j < n → get_or cur j 0 ≡ f j) × ((j : ℕ) → n ≤ j → get_or cur j 0 ≡ get_or old j 0)
+
+pub written_more :
+    (n : ℕ) (f : ℕ → ℕ) (old cur : List ℕ) (v : ℕ)
+    → n < length cur
+    → v ≡ f n
+    → Written n f old cur
+    → Written (n + 1) f old (set cur n v)
+written_more n f old cur v inside is before = (
+  holds_more n f cur v inside is before.0,
+  λ j h. get_or-set_other cur n j v 0 (λ e. omega arith) ∙ before.1 j (omega arith),
+)
+
+-- the row at a place now holds f, and nothing else is changed
+abbrev pub Filled : ℕ → ℕ → (ℕ → ℕ) → List ℕ → List ℕ → Type 0
+Filled n at f old new =
+    ((j : ℕ) → j < n → get_or new (at + j) 0 ≡ f j)
+    × ((i : ℕ) → (i < at) ⊎ (at + n ≤ i) → get_or new i 0 ≡ get_or old i 0)
+
+-- a row among others is written over, each number by its place and by what it was: at and k are the place and the
+-- length, as the code has them
+pub filled :
+    (n from at k : ℕ) (f : ℕ → ℕ → ℕ) (old row : List ℕ)
+    → at ≡ from
+    → k ≡ n
+    → from + n ≤ length old
+    → length row ≡ length (take k (drop at old))
+    → ((j : ℕ) → j < length (take k (drop at old)) → get_or row j 0 ≡ f j (get_or (take k (drop at old)) j 0))
+    → Filled n from (λ j. f j (get_or old (from + j) 0)) old (put_mid at k old row)
+filled n from at k f old row there same inside long is = (
+  λ j h. here j h ∙ is j (omega (arith, part_long)) ∙ ap (f j) (was j h),
+  λ i h. elim h [ inl low ↦ ahead i low | inr high ↦ behind i high ],
+)
+  where
+    part_long : length (take k (drop at old)) ≡ n
+    part_long = cut_long old from at k n there same inside
+
+    was : (j : ℕ) → j < n → get_or (take k (drop at old)) j 0 ≡ get_or old (from + j) 0
+    was j h = cut_at old from at k j there (omega arith)
+
+    here : (j : ℕ) → j < n → get_or (put_mid at k old row) (from + j) 0 ≡ get_or row j 0
+    here j h = grind (arith, places)
+
+    ahead : (i : ℕ) → i < from → get_or (put_mid at k old row) i 0 ≡ get_or old i 0
+    ahead i low = grind (arith, places)
+
+    behind : (i : ℕ) → from + n ≤ i → get_or (put_mid at k old row) i 0 ≡ get_or old i 0
+    behind i high = grind (arith, places)
 
 module _ (m : Meaning) (l : Laws m) where
   -- nothing is added where the factor is 0, and nothing changed where it is one
@@ -60,33 +103,45 @@ module _ (m : Meaning) (l : Laws m) where
   pub one_product : (a : ℕ) → Code m a → a ≡ m.product m.one a
   one_product a ac = sym (l.product_comm m.one a l.one_code ac ∙ l.product_one a ac)
 
-  -- a row of codes written among codes
-  pub filled_codes :
-      (n at : ℕ) (f : ℕ → ℕ) (old new : List ℕ)
-      → Codes m old
-      → ((j : ℕ) → j < n → Code m (f j))
-      → Filled n at f old new
-      → Codes m new
-  filled_codes n at f old new before codes filled i = go (either_way i at) (either_way i (at + n))
+  -- codes in a part of a list of codes, and in one that is put together of such lists
+  none_code : (i : ℕ) → Code m (get_or [] i 0)
+  none_code i = zero_code m l
+
+  take_codes : (n : ℕ) (xs : List ℕ) → Codes m xs → Codes m (take n xs)
+  take_codes zero xs codes i = none_code i
+  take_codes (suc n) [] codes i = none_code i
+  take_codes (suc n) (x ∷ xs) codes zero = codes 0
+  take_codes (suc n) (x ∷ xs) codes (suc i) = take_codes n xs (λ j. codes (suc j)) i
+
+  drop_codes : (n : ℕ) (xs : List ℕ) → Codes m xs → Codes m (drop n xs)
+  drop_codes n xs codes i = subst (Code m) (sym (get_or-drop n xs i 0)) (codes (n + i))
+
+  append_codes : (xs ys : List ℕ) → Codes m xs → Codes m ys → Codes m (xs ++ ys)
+  append_codes [] ys first last i = last i
+  append_codes (x ∷ xs) ys first last zero = first 0
+  append_codes (x ∷ xs) ys first last (suc i) = append_codes xs ys (λ j. first (suc j)) last i
+
+  pub part_codes : (at n : ℕ) (xs : List ℕ) → Codes m xs → Codes m (take n (drop at xs))
+  part_codes at n xs codes = take_codes n _ (drop_codes at xs codes)
+
+  pub put_codes : (at n : ℕ) (xs row : List ℕ) → Codes m xs → Codes m row → Codes m (put_mid at n xs row)
+  put_codes at n xs row codes new =
+      append_codes _ _ (take_codes at xs codes) (append_codes row _ new (drop_codes n _ (drop_codes at xs codes)))
+
+  pub push_codes : (xs : List ℕ) (v : ℕ) → Codes m xs → Code m v → Codes m (xs ++ v ∷ [])
+  push_codes xs v codes vc = append_codes xs (v ∷ []) codes (λ i. one i)
     where
-      kept : (i < at) ⊎ (at + n ≤ i) → Code m (get_or new i 0)
-      kept h = subst (Code m) (sym (filled.1 i h)) (before i)
+      one : (i : ℕ) → Code m (get_or (v ∷ []) i 0)
+      one zero = vc
+      one (suc i) = none_code i
 
-      within : at ≤ i → i < at + n → Code m (get_or new i 0)
-      within low high =
-          let j : ℕ = i - at in
-          let is : at + j ≡ i = omega arith in
-          let below : j < n = omega arith in
-          subst (λ (k : ℕ). Code m (get_or new k 0)) is (subst (Code m) (sym (filled.0 j below)) (codes j below))
-
-      go : Order i at → Order i (at + n) → Code m (get_or new i 0)
-      go (first h) k = kept (inl h)
-      go (same h) (first k) = within (omega arith) k
-      go (same h) (same k) = kept (inr (omega arith))
-      go (same h) (last k) = kept (inr (omega arith))
-      go (last h) (first k) = within (omega arith) k
-      go (last h) (same k) = kept (inr (omega arith))
-      go (last h) (last k) = kept (inr (omega arith))
+  -- behind the end of a list reads 0
+  pub all_codes : (xs : List ℕ) → ((i : ℕ) → i < length xs → Code m (get_or xs i 0)) → Codes m xs
+  all_codes xs each i =
+      elim (cases_lt i (length xs)) [
+        | inl h ↦ each i h
+        | inr h ↦ subst (Code m) (sym (get_or_past xs i 0 h)) (zero_code m l)
+      ]
 
   -- zeros are codes
   pub zeros_codes : (n : ℕ) → Codes m (replicate n 0)
@@ -108,6 +163,16 @@ module _ (m : Meaning) (l : Laws m) where
   negative_is a r ac e =
       let is : r ≡ m.negative a = e ∙ ap m.negative (reading_of m l a ac) in
       (subst (Code m) (sym is) (l.negative_code a ac), is)
+
+  pub negatives_are :
+      (xs ys : List ℕ)
+      → Codes m xs
+      → Negatives m xs ys
+      → Codes m ys × ((i : ℕ) → i < length xs → get_or ys i 0 ≡ m.negative (get_or xs i 0))
+  negatives_are xs ys codes each = (all_codes ys (λ i h. (are i (omega (arith, each.0))).0), λ i h. (are i h).1)
+    where
+      are : (i : ℕ) → i < length xs → Code m (get_or ys i 0) × (get_or ys i 0 ≡ m.negative (get_or xs i 0))
+      are i h = negative_is (get_or xs i 0) (get_or ys i 0) (codes i) (each.1 i h)
 
   pub level_is : (a r : ℕ) → Code m a → r ≡ m.level (reading m a) → r ≡ m.level a
   level_is a r ac e = e ∙ ap m.level (reading_of m l a ac)

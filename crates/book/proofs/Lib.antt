@@ -11,4 +11,3 @@ mod Returning
 mod Sheeted
 mod Spots
 mod Steps
-mod Taken

@@ -1,5 +1,5 @@
 -- What posting a tie makes of a table.
-use Rattle.std.proofs.Common.{◌≡◌, ℕ, zero, suc, ◌+◌, ◌-◌, ◌*◌, ◌<◌, ◌≤◌, List, [], ◌∷◌, ◌++◌, map, length, get_or, vec_items, sym, refl, ap, ◌∙◌, subst, subst₂, le_refl, arith, length-append}
+use Rattle.std.proofs.Common.{◌≡◌, ℕ, zero, suc, ◌+◌, ◌-◌, ◌*◌, ◌<◌, ◌≤◌, List, [], ◌∷◌, ◌++◌, map, length, vec_items, sym, refl, ap, ◌∙◌, subst, subst₂, le_refl, arith, length-append}
 use mathlib.Core.List.{map-append}
 use lib.ListN.{get_or-append}
 use lib.Seq.{get_or_at}
@@ -19,6 +19,7 @@ use Rattle.book.specs.Sheets.{Exact, generator_of, point_of}
 use Rattle.book.specs.Standing.{Built, Empty, Stands, Stepped, TakenIn, equation_of, ledger, nth_standing, nobody}
 use Rattle.book.specs.Measures.{Measures}
 use Rattle.book.specs.Posting.{Accepted, Shown}
+use Rattle.book.proofs.Choosing.{least}
 use Rattle.book.proofs.Counted.{built_count, fall}
 use Rattle.book.proofs.Exactness.{
   built_codes,
@@ -30,7 +31,6 @@ use Rattle.book.proofs.Exactness.{
   refused,
   slides,
 }
-use Rattle.book.proofs.Taken.{least}
 
 -- only the ties that made the rows matter
 built_agree :
@@ -124,24 +124,23 @@ module _ (m : Meaning) (l : Laws m) (s : Shape) (t : Table) where
 
     module _ (e : Equation) (sound : Sound m s e) (d : Measured) (measures : Measures m s e xs d) where
       abbrev v : ℕ
-      v = m.level (get_or d.products d.pivot 0)
+      v = m.level d.pivot.divisor
 
       -- there are as many digits free as the tie fixes
       pub enough_free : v ≤ m.level d.rest → digits m - v ≤ t.free
       enough_free low =
           (fall m l s within ks (length ks) xs t.free (le_refl (length ks)) stands
           (built_count m l s within ks (length ks) xs t.free (le_refl (length ks)) stands)
-          e d.pivot v sound measures.divides.0
-          (ap m.level (sym (measures.products d.pivot measures.divides.0)))
-          (least m l s e xs d measures)
+          e d.pivot.number v sound measures.pivots.formed.number (ap m.level (sym measures.pivots.divisor))
+          (least m l s e xs d.pivot measures.pivots)
           (subst (λ (a : ℕ). v ≤ m.level a) measures.missing low)).0
 
       pub contradictory : m.level d.rest < v → Contradictory m s (ledger t ++ (e ∷ []))
       contradictory low =
-          let here = measures.products d.pivot measures.divides.0 in
+          let here = measures.pivots.divisor in
           subst (λ (es : List Equation). Contradictory m s (es ++ (e ∷ []))) whole
-          (refused m l s within ks (length ks) xs t.free (le_refl (length ks)) stands e sound d.pivot
-          (λ i h. rw (← here) (least m l s e xs d measures i h))
+          (refused m l s within ks (length ks) xs t.free (le_refl (length ks)) stands e sound d.pivot.number
+          (λ i h. rw (← here) (least m l s e xs d.pivot measures.pivots i h))
           (rw (← here, ← measures.missing) low))
 
   -- the tie is taken in

@@ -22,7 +22,7 @@ use Rattle.linear.proofs.Pivots.{Pivoted, factor, mended, vanishing}
 use Rattle.linear.proofs.Raised.{flat, meets_exactly, raised_total, refutes_rows, right_of, row_of}
 use Rattle.book.specs.declared.standing.Standing.{Standing}
 use Rattle.book.specs.Rows.{Codes}
-use Rattle.book.specs.Turning.{generator}
+use Rattle.book.specs.Turning.{Formed, generator}
 use Rattle.book.specs.Sheets.{generator_of, point_of}
 use Rattle.book.specs.Standing.{Built, Fresh, Stepped, equation_of, nth_standing, raised, rest}
 use Rattle.book.specs.Evidence.{against}
@@ -195,7 +195,7 @@ module _ (m : Meaning) (l : Laws m) (s : Shape) where
       tie = nth_standing ks k
 
       abbrev cs : ℕ → Coded m
-      cs i = code m l (get_or tie.quotients i 0)
+      cs i = code m l (get_or tie.pivot.quotients.items i 0)
 
       abbrev old : List ℕ
       old = so_far.before.2.0
@@ -215,35 +215,31 @@ module _ (m : Meaning) (l : Laws m) (s : Shape) where
       abbrev stepped : Stepped m s tie old so_far.before.0 so_far.before.2.1 so_far.before.1
       stepped = so_far.before.2.3
 
-      turn : Pivoted (codes_valued m l) N a tie.pivot cs olds news
+      turn : Pivoted (codes_valued m l) N a tie.pivot.number cs olds news
       turn = step_pivoted m l s tie old _ _ _ old_codes stepped
 
-      divisor_is : (dot R N a (olds tie.pivot)).0 ≡ tie.divisor
+      divisor_is : (dot R N a (olds tie.pivot.number)).0 ≡ tie.pivot.divisor
       divisor_is =
-          dot_is m l s (equation_of tie) stepped.sound old old_codes (N + tie.pivot * N) ∙ sym stepped.divisor
+          dot_is m l s (equation_of tie) stepped.sound old old_codes (N + tie.pivot.number * N) ∙ sym stepped.pivots.divisor
 
-      against_is : against m s r tie ≡ (dot R N (coded m l r 0) (olds tie.pivot)).0
+      against_is : against m s r tie.pivot ≡ (dot R N (coded m l r 0) (olds tie.pivot.number)).0
       against_is =
           summed_sum m l N _ _
           (λ j h.
           let first : j ≡ 0 + j = omega arith in
           ap₂ m.product
           (sym (reading_of m l (get_or r j 0) (so_far.codes j)) ∙ ap (λ i. reading m (get_or r i 0)) first)
-          (stepped.row j h
-          ∙ sym (reading_of m l (generator N old tie.pivot j) (old_codes (N + tie.pivot * N + j))))
+          (stepped.pivots.row j h
+          ∙ sym (reading_of m l (generator N old tie.pivot.number j) (old_codes (N + tie.pivot.number * N + j))))
           )
 
-      pub settles : Sound m s (equation_of (nth_standing ks k)) × Codes m (nth_standing ks k).row × Code m (nth_standing ks k).divisor
-      settles = (
-        stepped.sound,
-        stepped.row_codes,
-        subst (Code m) divisor_is (dot R N a (olds tie.pivot)).1,
-      )
+      pub settles : Sound m s (equation_of (nth_standing ks k)) × Formed m N (nth_standing ks k).pivot
+      settles = (stepped.sound, stepped.pivots.formed)
 
-      pub has_quotient : m.level (nth_standing ks k).divisor ≤ m.level (against m s r (nth_standing ks k))
+      pub has_quotient : m.level (nth_standing ks k).pivot.divisor ≤ m.level (against m s r (nth_standing ks k).pivot)
       has_quotient =
           let low =
-          factor (codes_valued m l) N a tie.pivot cs olds news turn (coded m l r 0) so_far.before.3
+          factor (codes_valued m l) N a tie.pivot.number cs olds news turn (coded m l r 0) so_far.before.3
           in
           rw (against_is, ← divisor_is) low
 
@@ -251,7 +247,7 @@ module _ (m : Meaning) (l : Laws m) (s : Shape) where
           (q by : ℕ) (r' : List ℕ)
           → k < n
           → k < length ys
-          → Quotient m (against m s r (nth_standing ks k)) (nth_standing ks k).divisor q
+          → Quotient m (against m s r (nth_standing ks k).pivot) (nth_standing ks k).pivot.divisor q
           → by ≡ m.product (m.negative q) (power m (digits m - depth s (equation_of (nth_standing ks k))))
           → Codes m r'
           → Shares m s (λ h c. m.product by (factor_at m (equation_of (nth_standing ks k)).terms h c)) r r'
@@ -270,7 +266,7 @@ module _ (m : Meaning) (l : Laws m) (s : Shape) where
               λ i h.
                   dot_cong R N (coded m l r' 0) (λ j. add (coded m l r 0 j) (mul (neg c) (a j))) (olds i) (olds i) row
                   (λ j k. refl)
-                  ∙ mended (codes_valued m l) N a tie.pivot cs olds news turn (coded m l r 0) so_far.before.3 c
+                  ∙ mended (codes_valued m l) N a tie.pivot.number cs olds news turn (coded m l r 0) so_far.before.3 c
                   (same_code m _ _ (ap (λ d. m.product d q) divisor_is ∙ quotient.1 ∙ against_is))
                   i h,
             );

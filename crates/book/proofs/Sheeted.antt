@@ -1,15 +1,11 @@
 -- A sheet is exact by its numbers alone: what a list holds behind them does not matter.
-use Rattle.std.proofs.Common.{◌≡◌, ℕ, zero, suc, ◌+◌, ◌*◌, ◌<◌, List, get_or, sym, refl, ap, ◌∙◌, ap₂, arith}
-use Rattle.scale.specs.Meaning.{Meaning, summed}
+use Rattle.std.proofs.Common.{◌≡◌, ℕ, ◌+◌, ◌*◌, ◌<◌, List, get_or, sym, ap, ◌∙◌, ap₂, arith}
+use Rattle.scale.specs.Meaning.{Meaning}
 use Rattle.ties.specs.Layouts.{Shape, Assignment, place, places}
 use Rattle.ties.specs.Equations.{Equation}
 use Rattle.ties.proofs.Places.{place_below}
 use Rattle.book.specs.Sheets.{Exact, OnSheet}
-use Rattle.book.proofs.Spots.{row_inside}
-
-summed_cong : (m : Meaning) (n : ℕ) (f g : ℕ → ℕ) → ((i : ℕ) → i < n → f i ≡ g i) → summed m n f ≡ summed m n g
-summed_cong m zero f g h = refl
-summed_cong m (suc n) f g h = ap₂ m.sum (summed_cong m n f g (λ i k. h i (omega arith))) (h n (omega arith))
+use Rattle.book.proofs.Spots.{row_inside, summed_cong}
 
 module _ (m : Meaning) (s : Shape) where
   abbrev n : ℕ

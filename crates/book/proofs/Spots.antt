@@ -1,18 +1,14 @@
 -- Where the rows of a table lie: the point at 0, generator i at n + i * n.
-use Rattle.std.proofs.Common.{◌≡◌, ℕ, zero, suc, ◌+◌, ◌*◌, ◌<◌, ◌≤◌, ◌⊎◌, refl, ap, inl, inr, le_refl, suc-mul, mul-le-mul, arith}
-
--- which of two numbers comes first
-pub data Order (i p : ℕ) : Type 0 where
-  first : i < p → Order i p
-  same : i ≡ p → Order i p
-  last : p < i → Order i p
-
-pub either_way : (i p : ℕ) → Order i p
-either_way zero zero = same refl
-either_way zero (suc p) = first (omega arith)
-either_way (suc i) zero = last (omega arith)
-either_way (suc i) (suc p) =
-    elim (either_way i p) [ first h ↦ first (omega arith) | same e ↦ same (ap suc e) | last h ↦ last (omega arith) ]
+use Rattle.std.proofs.Common.{◌≡◌, ℕ, zero, suc, ◌+◌, ◌*◌, ◌<◌, ◌≤◌, ◌⊎◌, List, length, get_or, take, drop, refl, ap, ◌∙◌, ap₂, inl, inr, le_refl, suc-mul, mul-le-mul, arith}
+use Rattle.std.proofs.lemmas.Bool.{cases_lt}
+use Rattle.std.proofs.lemmas.List.{get_or-drop, get_or-take, places as sizes}
+use Rattle.scale.specs.Meaning.{Meaning, summed}
+use Rattle.ties.specs.declared.tie.Term.{Term}
+use Rattle.ties.specs.Equations.{term_at, total}
+use Rattle.ties.specs.Faults.{Exists, Passes}
+use Rattle.ties.specs.Layouts.{Shape, place, places}
+use Rattle.ties.proofs.Places.{place_below}
+use Rattle.book.specs.Rows.{row_at, row_of}
 
 before : (n i p : ℕ) → i < p → i * n + n ≤ p * n
 before n i p h =
@@ -23,19 +19,44 @@ before n i p h =
 pub row_inside : (n i : ℕ) → i < n → n + i * n + n ≤ n + n * n
 row_inside n i h = let k = before n i n h in omega arith
 
-pub rows_apart : (n i p : ℕ) → (i ≡ p → ⊥) → (n + i * n + n ≤ n + p * n) ⊎ (n + p * n + n ≤ n + i * n)
-rows_apart n i p d =
-    elim (either_way i p) [
-      | first h ↦ inl (omega (arith, before n i p h))
-      | same e ↦ absurd (d e)
-      | last h ↦ inr (omega (arith, before n p i h))
-    ]
-
 -- number j of another row lies outside a row
 pub spot_apart :
     (n i p j : ℕ) → j < n → (i ≡ p → ⊥) → (n + i * n + j < n + p * n) ⊎ (n + p * n + n ≤ n + i * n + j)
 spot_apart n i p j h d =
-    elim (rows_apart n i p d) [ inl k ↦ inl (omega arith) | inr k ↦ inr (omega arith) ]
+    elim (cases_lt i p) [
+      | inl low ↦ inl (omega (arith, before n i p low))
+      | inr high ↦ inr (omega (arith, before n p i (omega arith)))
+    ]
 
 pub point_apart : (n p j : ℕ) → j < n → (j < n + p * n) ⊎ (n + p * n + n ≤ j)
 point_apart n p j h = inl (omega arith)
+
+pub summed_cong : (m : Meaning) (n : ℕ) (f g : ℕ → ℕ) → ((i : ℕ) → i < n → f i ≡ g i) → summed m n f ≡ summed m n g
+summed_cong m zero f g h = refl
+summed_cong m (suc n) f g h = ap₂ m.sum (summed_cong m n f g (λ i k. h i (omega arith))) (h n (omega arith))
+
+-- a row that is cut out of a list of rows: at and k are its place and its length, as the code has them
+pub cut_at :
+    (xs : List ℕ) (from at k j : ℕ) → at ≡ from → j < k → get_or (take k (drop at xs)) j 0 ≡ get_or xs (from + j) 0
+cut_at xs from at k j there h =
+    get_or-take k (drop at xs) j 0 h ∙ get_or-drop at xs j 0 ∙ ap (λ a. get_or xs (a + j) 0) there
+
+pub cut_long :
+    (xs : List ℕ) (from at k n : ℕ) → at ≡ from → k ≡ n → from + n ≤ length xs → length (take k (drop at xs)) ≡ n
+cut_long xs from at k n there same inside = grind (arith, sizes)
+
+-- a total at such a row
+pub total_cut :
+    (m : Meaning) (s : Shape) (ts : List Term) (xs : List ℕ) (from at k : ℕ)
+    → Passes (Exists s ts) (length ts)
+    → at ≡ from
+    → k ≡ places s
+    → total m ts (row_of s (take k (drop at xs))) ≡ total m ts (row_at s xs from)
+total_cut m s ts xs from at k exist there long =
+    summed_cong m (length ts) _ _
+    (λ i h.
+    let t = term_at ts i in
+    let p = place s t.head t.counter in
+    let below = place_below s t.head t.counter (exist i h) in
+    ap (m.product t.factor) (cut_at xs from at k p there (omega arith))
+    )

@@ -1,20 +1,19 @@
 -- How the rows of a book come from its standing ties, one pivot step for each.
-use Rattle.std.specs.Prelude.{◌≡◌, ℕ, zero, suc, ◌+◌, ◌-◌, ◌*◌, ◌<◌, ◌≤◌, cond, List, [], ◌∷◌, ◌++◌, map, length, take, replicate, vec_items, vec_capacity, sum, ◌==◌, ◌≢◌, slice_index, slice_index_or, refl}
-use Rattle.std.proofs.Common.{lit≤}
+use Rattle.std.specs.Prelude.{◌≡◌, ℕ, zero, suc, ◌+◌, ◌-◌, ◌*◌, ◌<◌, ◌≤◌, cond, List, [], ◌∷◌, ◌++◌, map, length, vec_items, vec_capacity, sum, ◌==◌, slice_index, slice_index_or}
 use Rattle.scale.specs.Meaning.{Meaning, Quotient, digits, power}
 use Rattle.ties.specs.Layouts.{Shape, Assignment, less, places}
 use Rattle.ties.specs.Equations.{Equation, depth, total}
 use Rattle.ties.specs.Faults.{Sound}
-use Rattle.book.specs.declared.measured.Measured.{Measured}
+use Rattle.book.specs.declared.pivot.Pivot.{Pivot}
 use Rattle.book.specs.declared.standing.Standing.{Standing}
 use Rattle.book.specs.declared.table.Table.{Table}
 use Rattle.book.specs.Rows.{Codes}
-use Rattle.book.specs.Turning.{Turned, generator, point}
+use Rattle.book.specs.Turning.{Formed, Turned, generator, point}
 use Rattle.book.specs.Sheets.{generator_of, point_of}
 
 -- the equation of a standing tie
 abbrev pub equation_of : Standing → Equation
-equation_of k = record { target = k.target; right = k.right; terms = take k.count k.terms }
+equation_of k = record { target = k.target; right = k.right; terms = k.terms.items }
 
 -- an equation's terms at an assignment, and its right side, raised to full length
 abbrev pub raised : Meaning → Shape → Equation → Assignment → ℕ
@@ -42,24 +41,24 @@ pub record Fresh (m : Meaning) (s : Shape) (xs : List ℕ) (f : ℕ) : Type 0 wh
   pub units : (i j : ℕ) → i < places s → j < places s → generator (places s) xs i j ≡ cond (i == j) m.one 0
   pub free : f ≡ s.heads * sum s.widths
 
+-- what an equation asks of rows: the pivot's row stands there, the equation's raised product with it is the divisor, and
+-- this one divides those with all generators
+pub record Pivots (m : Meaning) (s : Shape) (e : Equation) (xs : List ℕ) (k : Pivot) : Type 0 where
+  pub formed : Formed m (places s) k
+  pub row : (j : ℕ) → j < places s → slice_index k.row.items j ≡ generator (places s) xs k.number j
+  pub divisor : k.divisor ≡ raised m s e (generator_of s xs k.number)
+  pub divides :
+      (i : ℕ) → i < places s → Quotient m (raised m s e (generator_of s xs i)) k.divisor (slice_index k.quotients.items i)
+
 -- a sound tie made its pivot step from old rows with g free digits to new rows with f
 pub record Stepped (m : Meaning) (s : Shape) (k : Standing) (old new : List ℕ) (g f : ℕ) : Type 0 where
   pub sound : Sound m s (equation_of k)
   pub size : length new ≡ places s + places s * places s
   pub codes : Codes m new
-  pub pivot : k.pivot < places s
-  pub row : (j : ℕ) → j < places s → slice_index k.row j ≡ generator (places s) old k.pivot j
-  pub row_codes : Codes m k.row
-  pub divisor : k.divisor ≡ raised m s (equation_of k) (generator_of s old k.pivot)
-  pub divides :
-      (i : ℕ)
-      → i < places s
-      → (i ≢ k.pivot)
-      → Quotient m (raised m s (equation_of k) (generator_of s old i)) k.divisor (slice_index k.quotients i)
-  pub shift : Quotient m (rest m s (equation_of k) old) k.divisor k.shift
-  pub turned :
-      Turned m (places s) k.pivot k.quotients k.shift (digits m - m.level k.divisor) old new
-  pub free : f + (digits m - m.level k.divisor) ≡ g
+  pub pivots : Pivots m s (equation_of k) old k.pivot
+  pub shift : Quotient m (rest m s (equation_of k) old) k.pivot.divisor k.shift
+  pub turned : Turned m (places s) k.pivot.number k.pivot.quotients.items k.shift (digits m - m.level k.pivot.divisor) old new
+  pub free : f + (digits m - m.level k.pivot.divisor) ≡ g
   pub freed : k.free ≡ g
 
 -- no tie, where a list has no such
@@ -68,18 +67,10 @@ nobody =
     record {
       target = 0;
       right = 0;
-      count = 0;
-      terms = replicate 32 (record { head = 0; counter = 0; factor = 0 });
-      pivot = 0;
-      row = replicate 32 0;
-      divisor = 0;
-      quotients = replicate 32 0;
+      terms = record { items = [] };
+      pivot = record { number = 0; row = record { items = [] }; divisor = 0; quotients = record { items = [] } };
       shift = 0;
       free = 0;
-      few_terms = lit≤ tt;
-      all_terms = refl;
-      whole_row = refl;
-      all_quotients = refl;
     }
 
 -- the i-th of a list of standing ties
@@ -104,17 +95,6 @@ ledger t = map equation_of (vec_items t.standing)
 abbrev pub Empty : Meaning → Shape → Table → Type 0
 Empty m s t = (vec_items t.standing ≡ []) × Fresh m s (vec_items t.rows) t.free × (64 ≤ vec_capacity t.standing)
 
--- what is noted of an equation before its step
-pub record Noted (n : ℕ) (e : Equation) (d : Measured) (shift free : ℕ) (xs : List ℕ) (k : Standing) : Type 0 where
-  pub equation : equation_of k ≡ e
-  pub pivot : k.pivot ≡ d.pivot
-  pub row : (j : ℕ) → j < n → slice_index k.row j ≡ generator n xs d.pivot j
-  pub rest : (j : ℕ) → n ≤ j → slice_index k.row j ≡ 0
-  pub divisor : k.divisor ≡ slice_index d.products d.pivot
-  pub quotients : k.quotients ≡ d.quotients
-  pub moved : k.shift ≡ shift
-  pub freed : k.free ≡ free
-
 -- an equation has made its step: it stands last, and fixed some digits
 pub record TakenIn (m : Meaning) (s : Shape) (e : Equation) (old new : Table) (fixed : ℕ) : Type 0 where
   pub last : Standing
@@ -125,9 +105,9 @@ pub record TakenIn (m : Meaning) (s : Shape) (e : Equation) (old new : Table) (f
   pub room : vec_capacity new.standing ≡ vec_capacity old.standing
 
 -- a step is taken back: the rows and the free digits are those before it, and the ties stand as they did
-abbrev pub GivenBack : Meaning → Shape → Standing → Table → Table → Type 0
-GivenBack m s k old new =
-    ((xs : List ℕ) (g : ℕ)
+abbrev pub GivenBack : Meaning → Standing → Table → Table → Type 0
+GivenBack m k old new =
+    ((s : Shape) (xs : List ℕ) (g : ℕ)
     → Codes m xs
     → length xs ≡ places s + places s * places s
     → Stepped m s k xs (vec_items old.rows) g old.free

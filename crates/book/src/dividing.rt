@@ -1,10 +1,11 @@
 // The choice of a pivot among products: one that divides all of them, with the quotients.
 
-ghost use Rattle.std.specs.Prelude.{◌≤◌, length};
-ghost use Rattle.book.specs.Dividing.{Divides, Scanned};
+ghost use Rattle.std.specs.Prelude.{◌≡◌, ◌<◌, ◌≤◌, length, slice_index};
+ghost use Rattle.book.specs.Dividing.{Divides, Lowest};
 ghost use Rattle.book.specs.Rows.{Codes};
 ghost use Rattle.scale.specs.Meaning.{Code, Divided};
 
+use arrayvec::ArrayVec;
 use scale::Scale;
 
 // Some `c` with `b` times `c` equal to `a`, where there is one; 0 where `a` is 0.
@@ -19,40 +20,34 @@ pub fn quotient_of<S: Scale>(scale: &S, a: u32, b: u32) -> Option<u32>
     }
 }
 
-// The last product that the one chosen before it does not divide, with the quotients of those behind it.
-pub fn scan<S: Scale>(scale: &S, products: &[u32], n: usize, quotients: &mut [u32]) -> usize
+// The first of the least level, which divides all others.
+pub fn lowest<S: Scale>(scale: &S, products: &[u32]) -> usize
     requires codes { Codes (S.Scale.meaning scale.now) products.now }
-    requires some { 1 ≤ n }
-    requires inside { (n ≤ length products.now) × (n ≤ length quotients.old) }
-    ensures { Scanned (S.Scale.meaning scale.now) products.now quotients.new n result }
+    requires some { 1 ≤ length products.now }
+    ensures { Lowest (S.Scale.meaning scale.now) products.now (length products.now) result }
 {
     let mut pivot = 0;
-    for i in 1..n {
-        match quotient_of(scale, products[i], products[pivot]) {
-            Some(quotient) => quotients[i] = quotient,
-            None => pivot = i,
+    let mut least = scale.level(products[0]);
+    for (i, product) in products.iter().enumerate() {
+        let level = scale.level(*product);
+        if level < least {
+            pivot = i;
+            least = level;
         }
     }
     pivot
 }
 
-// The quotients of the products before the pivot, which divides them.
-pub fn divide_before<S: Scale>(
-    scale: &S,
-    products: &[u32],
-    n: usize,
-    pivot: usize,
-    quotients: &mut [u32],
-)
+// The quotients of all products by one of the least level.
+pub fn divide<S: Scale>(scale: &S, products: &[u32], pivot: usize) -> ArrayVec<u32, 32>
     requires codes { Codes (S.Scale.meaning scale.now) products.now }
-    requires inside { (n ≤ length products.now) × (n ≤ length quotients.old) }
-    requires scanned { Scanned (S.Scale.meaning scale.now) products.now quotients.old n pivot }
-    ensures { Divides (S.Scale.meaning scale.now) products.now quotients.new n pivot }
+    requires few { length products.now ≤ 32 }
+    requires lowest { Lowest (S.Scale.meaning scale.now) products.now (length products.now) pivot }
+    ensures { Divides (S.Scale.meaning scale.now) products.now (slice_index products.now pivot) result.items }
 {
-    for i in 0..pivot {
-        let Some(quotient) = quotient_of(scale, products[i], products[pivot]) else {
-            return unreachable();
-        };
-        quotients[i] = quotient;
+    let mut quotients = ArrayVec::new();
+    for product in products {
+        quotients.push(quotient_of(scale, *product, products[pivot]).unwrap());
     }
+    quotients
 }

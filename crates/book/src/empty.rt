@@ -9,15 +9,20 @@ use scale::Scale;
 use std::alloc::{AllocError, Global};
 use ties::layout::Layout;
 
+// The number of digits of the counters on one head.
+fn head_digits(widths: &[u8]) -> u16
+    requires { length widths.now ≤ 4 }
+    ensures all { result ≡ sum widths.now }
+    ensures few { result ≤ 4 * 255 }
+{
+    widths.iter().map(|width| u16::from(*width)).sum()
+}
+
 // The number of digits of all counters on all heads.
 fn all_digits(layout: &Layout) -> u16
     ensures { let s = shape layout.now in result ≡ s.heads * sum s.widths }
 {
-    let mut total = 0;
-    for counter in 0..layout.counters() {
-        total += u16::from(layout.width(counter));
-    }
-    u16::from(layout.heads()) * total
+    u16::from(layout.heads()) * head_digits(layout.widths())
 }
 
 // Makes the generators, which are all 0, the unit rows.

@@ -1,74 +1,60 @@
 // What a tie asks of the rows of a table.
 
-ghost use Rattle.std.specs.Prelude.{◌≡◌, ℕ, ◌+◌, ◌-◌, ◌*◌, ◌<◌, length, slice_index};
+ghost use Rattle.std.specs.Prelude.{◌≡◌, ℕ, ◌+◌, ◌*◌, ◌<◌, length, slice_index};
 ghost use Rattle.book.specs.Measures.{Measures};
 ghost use Rattle.book.specs.Rows.{Codes};
 ghost use Rattle.book.specs.Sheets.{generator_of};
-ghost use Rattle.scale.specs.Meaning.{Code, digits, power};
-ghost use Rattle.ties.specs.Equations.{equation, term_at, total};
-ghost use Rattle.ties.specs.Faults.{Exists, Passes, Sound};
-ghost use Rattle.ties.specs.Layouts.{places, shape, width_of};
+ghost use Rattle.book.specs.Standing.{raised};
+ghost use Rattle.ties.specs.Equations.{equation};
+ghost use Rattle.ties.specs.Layouts.{places, shape};
 
-use crate::dividing::{divide_before, scan};
+use crate::dividing::{divide, lowest};
 use crate::measured::Measured;
+use crate::pivot::Pivot;
 use crate::rows::total_at;
-use scale::{Scale, step_power};
-use ties::layout::Layout;
-use ties::tie::{Term, Tie};
+use arrayvec::ArrayVec;
+use scale::Scale;
+use ties::sound::SoundTie;
 
-// What raises a tie with this target to full length.
-pub fn raise_to<S: Scale>(scale: &S, layout: &Layout, target: u8) -> u32
-    ensures { let m = S.Scale.meaning scale.now in result ≡ power m (digits m - width_of (shape layout.now) target) }
+// The tie's raised products with all generators.
+fn multiply_out<S: Scale>(tie: &SoundTie<S>, rows: &[u32]) -> ArrayVec<u32, 32>
+    requires codes { Codes (S.Scale.meaning tie.now.scale.now) rows.now }
+    requires size { let n = places (shape tie.now.layout.now) in length rows.now ≡ n + n * n }
+    ensures codes { Codes (S.Scale.meaning tie.now.scale.now) result.items }
+    ensures count { length result.items ≡ places (shape tie.now.layout.now) }
+    ensures products { let s = shape tie.now.layout.now in (i : ℕ) → i < places s → slice_index result.items i ≡ raised (S.Scale.meaning tie.now.scale.now) s (equation tie.now.tie) (generator_of s rows.now i) }
 {
-    step_power(
-        scale,
-        scale.mark().length.saturating_sub(layout.width(target)),
-    )
-}
-
-// The raised products of terms with all generators.
-fn multiply_out<S: Scale>(
-    scale: &S,
-    layout: &Layout,
-    terms: &[Term],
-    raise: u32,
-    rows: &[u32],
-    products: &mut [u32],
-)
-    requires exist { Passes (Exists (shape layout.now) terms.now) (length terms.now) }
-    requires factors { (i : ℕ) → i < length terms.now → Code (S.Scale.meaning scale.now) (term_at terms.now i).factor }
-    requires codes { Codes (S.Scale.meaning scale.now) rows.now × Codes (S.Scale.meaning scale.now) products.old × Code (S.Scale.meaning scale.now) raise }
-    requires inside { (length rows.now ≡ places (shape layout.now) + places (shape layout.now) * places (shape layout.now)) × (length products.old ≡ 32) }
-    ensures codes { Codes (S.Scale.meaning scale.now) products.new }
-    ensures products { let m = S.Scale.meaning scale.now in let s = shape layout.now in ((i : ℕ) → i < places s → slice_index products.new i ≡ m.product raise (total m terms.now (generator_of s rows.now i))) }
-{
-    let n = layout.places();
+    let n = tie.layout.places();
+    let raise = tie.raise();
+    let mut products = ArrayVec::new();
     for i in 0..n {
-        products[i] = scale.product(raise, total_at(scale, layout, terms, rows, n + i * n));
+        let at = n + i * n;
+        let total = total_at(tie, &rows[at..at + n]);
+        products.push(tie.scale.product(raise, total));
     }
+    products
 }
 
-// The tie's raised products with the generators, a pivot that divides them, the quotients, and what is missing at
-// the point.
-pub fn measure<S: Scale>(scale: &S, layout: &Layout, tie: &Tie, rows: &[u32]) -> Measured
-    requires sound { Sound (S.Scale.meaning scale.now) (shape layout.now) (equation tie.now) }
-    requires codes { Codes (S.Scale.meaning scale.now) rows.now }
-    requires size { length rows.now ≡ places (shape layout.now) + places (shape layout.now) * places (shape layout.now) }
-    ensures { Measures (S.Scale.meaning scale.now) (shape layout.now) (equation tie.now) rows.now result }
+// The tie's pivot, and what is missing at the point.
+pub fn measure<S: Scale>(tie: &SoundTie<S>, rows: &[u32]) -> Measured
+    requires codes { Codes (S.Scale.meaning tie.now.scale.now) rows.now }
+    requires size { let n = places (shape tie.now.layout.now) in length rows.now ≡ n + n * n }
+    ensures { Measures (S.Scale.meaning tie.now.scale.now) (shape tie.now.layout.now) (equation tie.now.tie) rows.now result }
 {
-    let n = layout.places();
-    let raise = raise_to(scale, layout, tie.target);
-    let mut products = [0; 32];
-    multiply_out(scale, layout, tie.terms, raise, rows, &mut products);
-    let mut quotients = [0; 32];
-    let pivot = scan(scale, &products, n, &mut quotients);
-    divide_before(scale, &products, n, pivot, &mut quotients);
-    let reached = scale.product(raise, total_at(scale, layout, tie.terms, rows, 0));
-    let rest = scale.sum(scale.product(raise, tie.right), scale.negative(reached));
+    let n = tie.layout.places();
+    let scale = tie.scale;
+    let products = multiply_out(tie, rows);
+    let number = lowest(scale, &products);
+    let at = n + number * n;
+    let raise = tie.raise();
+    let reached = scale.product(raise, total_at(tie, &rows[..n]));
     Measured {
-        products,
-        quotients,
-        pivot,
-        rest,
+        pivot: Pivot {
+            number,
+            row: ArrayVec::try_from(&rows[at..at + n]).unwrap(),
+            divisor: products[number],
+            quotients: divide(scale, &products, number),
+        },
+        rest: scale.sum(scale.product(raise, tie.tie.right), scale.negative(reached)),
     }
 }

@@ -21,30 +21,15 @@ impl<S: Scale> Book<S, Open> {
         if multipliers.len() < 64 {
             return Err(PostFault::List);
         }
-        tie.check(&self.scale, &self.layout)?;
+        let tie = tie.check(&self.scale, &self.layout)?;
         if self.table.standing.len() >= 64 {
             return Err(PostFault::Full);
         }
-        let measured = measure(&self.scale, &self.layout, tie, &self.table.rows);
-        let divisor = measured.products[measured.pivot];
-        match quotient_of(&self.scale, measured.rest, divisor) {
-            Some(shift) => Ok(take_in(
-                &self.scale,
-                &self.layout,
-                &mut self.table,
-                tie,
-                &measured,
-                shift,
-            )),
+        let measured = measure(&tie, &self.table.rows);
+        match quotient_of(&self.scale, measured.rest, measured.pivot.divisor) {
+            Some(shift) => Ok(take_in(&tie, &mut self.table, measured, shift)),
             None => {
-                refute(
-                    &self.scale,
-                    &self.layout,
-                    &self.table,
-                    tie,
-                    &measured,
-                    multipliers,
-                );
+                refute(&tie, &self.table, &measured, multipliers);
                 Err(PostFault::Contradiction)
             }
         }

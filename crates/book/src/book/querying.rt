@@ -16,12 +16,12 @@ impl<S: Scale, P> Book<S, P> {
     pub fn query(&self, tie: &Tie) -> Result<Reading, TieFault>
         ensures { let b = self.now in let e = equation tie.now in MatchResult result (QueriedFrom S.Scale.meaning b e) (QueryStopped S.Scale.meaning b e) }
     {
-        tie.check(&self.scale, &self.layout)?;
+        let sound = tie.check(&self.scale, &self.layout)?;
         let rows: &[u32] = &self.table.rows;
-        let total = total_at(&self.scale, &self.layout, tie.terms, rows, 0);
+        let total = total_at(&sound, &rows[..self.layout.places()]);
         Ok(Reading {
             value: self.scale.sum(total, self.scale.negative(tie.right)),
-            settled: settled_digits(&self.scale, &self.layout, tie, rows),
+            settled: settled_digits(&sound, rows),
         })
     }
 }

@@ -14,7 +14,7 @@ impl<S: Scale> Book<S, Open> {
             return Err(WithdrawFault::Nothing);
         }
         let last = self.table.standing.take_last();
-        give_back(&self.scale, &self.layout, &mut self.table, &last);
+        give_back(&self.scale, &mut self.table, &last);
         Ok(())
     }
 }

@@ -1,18 +1,30 @@
-use Rattle.std.proofs.Common.{ℕ, get_or, sym, ap, ◌∙◌, add-one}
+use Rattle.std.proofs.Common.{◌≡◌, ℕ, length, get_or, sym, ap, ◌∙◌, ap₂, add-one}
+use Rattle.std.proofs.lemmas.List.{length_push}
+use Rattle.std.proofs.lemmas.Slice.Zip.{zip_turn}
 use Rattle.scale.specs.Meaning.{summed}
 use Rattle.book.proofs.Filling.{sum_product_is}
 use Rattle.book.proofs.evidence.dot.Goals as goal
 
-pub loop-j-preserved : goal.loop-j-preserved
-loop-j-preserved g c =
+pub loop-x-preserved : goal.loop-x-preserved
+loop-x-preserved g c =
     let m = g.S.Scale.meaning c.args.scale.now in
     let l = g.met.S.Scale.lawful c.args.scale.now in
-    let j = c.loop-j.j in
     let a = c.args.a.now in
     let b = c.args.b.now in
+    let j : ℕ = length c.loop-x.yielded in
     let F : ℕ → ℕ = λ i. m.product (get_or a i 0) (get_or b i 0) in
-    let done =
-    sum_product_is m l c.loop-j.total (get_or a j 0) (get_or b j 0) c.product.result c.sum-total.result
-    c.loop-j.invariant.0 (c.requires.codes.0 j) (c.requires.codes.1 j) c.product.ensures c.sum-total.ensures
+    let turn =
+    zip_turn a b c.loop-x.yielded c.into_iter-x-iterator.result c.loop-x.x-iterator c.next.new.self c.next.result (cc) (cc) c.loop-x.yielded_by (c.in-Some.x, c.in-Some.y) c.in-Some.is
+    c.next.ensures.steps
     in
-    (done.0, done.1 ∙ ap (λ t. m.sum t (F j)) c.loop-j.invariant.1 ∙ ap (λ n. summed m n F) (sym (add-one j)))
+    let x_is : c.in-Some.x.now ≡ get_or a j 0 = turn.2 0 in
+    let y_is : c.in-Some.y.now ≡ get_or b j 0 = turn.3 0 in
+    let done =
+    sum_product_is m l c.loop-x.total c.in-Some.x.now c.in-Some.y.now c.product.result c.sum-total.result
+    c.loop-x.invariant.0 (rw x_is (c.requires.codes.0 j)) (rw y_is (c.requires.codes.1 j)) c.product.ensures c.sum-total.ensures
+    in (
+      done.0,
+      done.1
+          ∙ ap₂ m.sum c.loop-x.invariant.1 (ap₂ m.product x_is y_is)
+          ∙ ap (λ n. summed m n F) (sym (length_push c.loop-x.yielded (c.in-Some.x, c.in-Some.y) ∙ add-one j)),
+    )

@@ -2,179 +2,175 @@ use Rattle.std.proofs.Common.{◌≡◌, ℕ, suc, ◌-◌, ◌<◌, ◌≤◌, 
 use lib.ListN.{length-map}
 use Rattle.std.proofs.lemmas.List.Elements.{All-push}
 use Rattle.std.proofs.lemmas.List.{get_or_default}
-use Rattle.scale.specs.Meaning.{Code, digits, power}
+use Rattle.scale.specs.Meaning.{Meaning, Laws, Code, digits, power}
 use Rattle.scale.proofs.Codes.{power_code}
-use Rattle.ties.specs.Equations.{depth, equation}
-use Rattle.ties.specs.Layouts.{shape}
-use Rattle.ties.proofs.Places.{layout_sized, places_most}
+use Rattle.ties.specs.Equations.{Equation, depth, equation}
+use Rattle.ties.specs.Layouts.{Shape, places, shape}
 use Rattle.multipliers.proofs.Concluding.{zeros_read}
 use Rattle.book.specs.declared.standing.Standing.{Standing}
-use Rattle.book.specs.Rows.{Codes}
 use Rattle.book.specs.Standing.{equation_of, ledger, nobody, nth_standing, rest}
+use Rattle.book.specs.Turning.{Formed}
 use Rattle.book.specs.Evidence.{Settled, against}
 use Rattle.ties.specs.Faults.{Sound}
-use Rattle.book.proofs.Taken.{least}
+use Rattle.book.proofs.Choosing.{least}
 use Rattle.book.proofs.Posts.{stands_solved, stands_sound}
-use Rattle.book.proofs.Filling.{level_is, product_is, zeros_codes}
+use Rattle.book.proofs.Filling.{product_is, zeros_codes}
 use Rattle.book.proofs.Refuting.{Refuting, done, has_quotient, settles, start, step}
 use Rattle.book.proofs.evidence.refute.Goals as goal
-
-pub bounds-measured-measured : goal.bounds-measured-measured
-bounds-measured-measured g c =
-    omega (arith, c.requires.measures.divides.0, places_most (shape c.args.layout.now) (layout_sized c.args.layout.now))
-
-pub add_terms-requires : goal.add_terms-requires
-add_terms-requires g c =
-    let m = g.S.Scale.meaning c.args.scale.now in
-    let l = g.met.S.Scale.lawful c.args.scale.now in
-    let lead_code : Code m c.step_power-lead.result = subst (Code m) (sym c.step_power-lead.ensures) (power_code m l _) in
-    let raise_code : Code m c.raise_to.result = subst (Code m) (sym c.raise_to.ensures) (power_code m l _) in
-    record {
-      by_code = (product_is m l _ _ _ lead_code raise_code c.product-by.ensures).0;
-      exist = c.requires.sound.exist;
-      factors = λ i h. (c.requires.sound.codes i (omega arith)).0 h;
-      room = refl;
-      codes = zeros_codes m l 32;
-    }
 
 -- an element that is read is the one that stands there
 read_is : (ks : List Standing) (i : ℕ) (k : Standing) → i < length ks → k ≡ get_or ks i k → k ≡ nth_standing ks i
 read_is ks i k h e = e ∙ get_or_default ks i k nobody h
 
--- one tie less
-less_one : (k : ℕ) → 0 < k → k ≡ suc (k - 1)
-less_one k h = omega arith
+module _ (m : Meaning) (l : Laws m) (s : Shape) (ks : List Standing) (e : Equation) (k : ℕ) (ys row : List ℕ) (t : Standing)
+    (some : 0 < k) (below : k - 1 < length ks) (read : t ≡ get_or ks (k - 1) t) (left : Refuting m l s ks e k ys row)
+  where
+    -- one tie less
+    so_far : Refuting m l s ks e (suc (k - 1)) ys row
+    so_far = let less_one : k ≡ suc (k - 1) = omega arith in subst (λ (n : ℕ). Refuting m l s ks e n ys row) less_one left
+
+    -- what is known of the tie that comes next
+    next_tie : Sound m s (equation_of t) × Formed m (places s) t.pivot × (m.level t.pivot.divisor ≤ m.level (against m s row t.pivot))
+    next_tie =
+        let known = settles m l s ks e (k - 1) ys row so_far in
+        let P : Standing → Type 0 =
+        λ t. Sound m s (equation_of t) × Formed m (places s) t.pivot × (m.level t.pivot.divisor ≤ m.level (against m s row t.pivot))
+        in
+        subst P (sym (read_is ks (k - 1) t below read)) (known.0, known.1, has_quotient m l s ks e (k - 1) ys row so_far)
+
+    -- it is settled
+    next_settled :
+        (new : List ℕ) (y : ℕ)
+        → k - 1 < length ys
+        → Settled m s (equation_of t) t.pivot row new y
+        → Refuting m l s ks e (k - 1) (set ys (k - 1) y) new
+    next_settled new y room done =
+        let u = nth_standing ks (k - 1) in
+        let settled : Settled m s (equation_of u) u.pivot row new y =
+        subst (λ (t : Standing). Settled m s (equation_of t) t.pivot row new y) (read_is ks (k - 1) t below read) done
+        in
+        let raise = power m (digits m - depth s (equation_of u)) in
+        subst (λ (y : ℕ). Refuting m l s ks e (k - 1) (set ys (k - 1) y) new) (sym settled.is)
+        (step m l s ks e (k - 1) ys row so_far settled.quotient (m.product y raise) new below room settled.divides
+        (ap (λ a. m.product a raise) settled.is) settled.codes settled.added)
 
 pub loop-k-init : goal.loop-k-init
 loop-k-init g c =
-    let m = g.S.Scale.meaning c.args.scale.now in
-    let l = g.met.S.Scale.lawful c.args.scale.now in
-    let s = shape c.args.layout.now in
-    let e = equation c.args.tie.now in
+    let m = g.S.Scale.meaning c.args.tie.now.scale.now in
+    let l = g.met.S.Scale.lawful c.args.tie.now.scale.now in
+    let s = shape c.args.tie.now.layout.now in
+    let e = equation c.args.tie.now.tie in
     let ks = vec_items c.args.table.now.standing in
     let xs = vec_items c.args.table.now.rows in
-    let d = c.args.measured.now in
+    let pivots = c.requires.measures.pivots in
+    let p = c.args.measured.now.pivot in
     let ys = c.args.multipliers.now in
     let lead = c.step_power-lead.result in
     let count : c.len-count.result ≡ length ks = c.len-count.ensures ∙ c.args.table.now.standing.ok.0 in
     let room : c.len-count.result < length ys = omega (arith, c.len-count.ensures, c.requires.room) in
-    let v = m.level (get_or d.products d.pivot 0) in
-    let level : c.level-level.result ≡ v = level_is m l _ _ (c.requires.measures.codes d.pivot) c.level-level.ensures in
+    let v = m.level p.divisor in
     let lead_is : lead ≡ power m (digits m - v) =
-    c.step_power-lead.ensures ∙ ap (power m) (ap₂ (λ a b. a - b) (ap (λ k. k.length) c.mark.ensures) level)
+    c.step_power-lead.ensures ∙ ap (power m) c.fixed.ensures
     in
     let set_there : get_or (set ys c.len-count.result lead) c.len-count.result 0 ≡ lead =
     get_or-set_same ys c.len-count.result lead 0 room
     in
     let lead_code : Code m lead = subst (Code m) (sym lead_is) (power_code m l _) in
-    let raise_code : Code m c.raise_to.result = subst (Code m) (sym c.raise_to.ensures) (power_code m l _) in
-    let by = (product_is m l lead c.raise_to.result c.product-by.result lead_code raise_code c.product-by.ensures).1 in
+    let raise_code : Code m c.raise.result = subst (Code m) (sym c.raise.ensures) (power_code m l _) in
+    let by = product_is m l lead c.raise.result c.product.result lead_code raise_code c.product.ensures in
+    let zeros = zeros_codes m l 32 in
     let begun : Refuting m l s ks e (length ks) (set ys c.len-count.result lead) c.add_terms.new.row =
-    start m l s ks e xs c.args.table.now.free d.pivot v c.product-by.result (replicate 32 0)
-    (set ys c.len-count.result lead) c.add_terms.new.row c.requires.stands c.requires.sound
-    (ap m.level (sym (c.requires.measures.products d.pivot c.requires.measures.divides.0)))
-    (λ i h. least m l s e xs d c.requires.measures i h)
+    start m l s ks e xs c.args.table.now.free p.number v c.product.result (replicate 32 0)
+    (set ys c.len-count.result lead) c.add_terms.new.row c.requires.stands c.args.tie.now.sound
+    (ap m.level (sym pivots.divisor)) (least m l s e xs p pivots)
     (ap (λ i. get_or (set ys c.len-count.result lead) i 0) (sym count) ∙ set_there ∙ lead_is)
-    (by ∙ ap₂ m.product lead_is c.raise_to.ensures)
-    (zeros_read 32) c.add_terms.ensures.codes c.add_terms.ensures.added
+    (by.1 ∙ ap₂ m.product lead_is c.raise.ensures)
+    (zeros_read 32) (c.add_terms.ensures.codes by.0 zeros) (c.add_terms.ensures.added by.0 zeros)
     in (
       subst (λ (n : ℕ). Refuting m l s ks e n (set ys c.len-count.result lead) c.add_terms.new.row) (sym count) begun,
-      c.add_terms.auto.row,
       set_there,
       λ i h. refl,
     )
 
+pub invariant_of-tie : goal.invariant_of-tie
+invariant_of-tie g c =
+    let tie = c.args.tie.now in
+    let m = g.S.Scale.meaning tie.scale.now in
+    let ks = vec_items c.args.table.now.standing in
+    let below : c.loop-k.k - 1 < length ks =
+    omega (arith, c.loop-k-test.true, c.loop-k.auto.k, c.len-count.ensures, c.args.table.now.standing.ok.0)
+    in
+    let known =
+    next_tie m (g.met.S.Scale.lawful tie.scale.now) (shape tie.layout.now) ks (equation tie.tie) c.loop-k.k
+    c.loop-k.multipliers c.loop-k.row c.index-standing.result.now c.loop-k-test.true below c.index-standing.ensures
+    c.loop-k.invariant.0
+    in
+    record { sound = rw c.tie.ensures known.0 }
+
 pub settle-requires : goal.settle-requires
 settle-requires g c =
-    let m = g.S.Scale.meaning c.args.scale.now in
-    let l = g.met.S.Scale.lawful c.args.scale.now in
-    let s = shape c.args.layout.now in
-    let e = equation c.args.tie.now in
+    let tie = c.args.tie.now in
+    let m = g.S.Scale.meaning tie.scale.now in
     let ks = vec_items c.args.table.now.standing in
-    let k = c.loop-k.k in
-    let count : c.len-count.result ≡ length ks = c.len-count.ensures ∙ c.args.table.now.standing.ok.0 in
-    let at : c.index.result.now ≡ nth_standing ks (k - 1) =
-    read_is ks (k - 1) c.index.result.now (omega (arith, c.loop-k-test.true, c.loop-k.auto.k)) c.index.ensures
+    let below : c.loop-k.k - 1 < length ks =
+    omega (arith, c.loop-k-test.true, c.loop-k.auto.k, c.len-count.ensures, c.args.table.now.standing.ok.0)
     in
-    let so_far : Refuting m l s ks e (suc (k - 1)) c.loop-k.multipliers c.loop-k.row =
-    subst (λ (n : ℕ). Refuting m l s ks e n c.loop-k.multipliers c.loop-k.row) (less_one k c.loop-k-test.true) c.loop-k.invariant.0
+    let known =
+    next_tie m (g.met.S.Scale.lawful tie.scale.now) (shape tie.layout.now) ks (equation tie.tie) c.loop-k.k
+    c.loop-k.multipliers c.loop-k.row c.index-standing.result.now c.loop-k-test.true below c.index-standing.ensures
+    c.loop-k.invariant.0
     in
-    let P : Standing → Type 0 =
-    λ t.
-    (Sound m s (equation_of t) × Codes m t.row × Code m t.divisor)
-    × (m.level t.divisor ≤ m.level (against m s c.loop-k.row t))
-    in
-    let here = subst P (sym at) (
-      settles m l s ks e (k - 1) c.loop-k.multipliers c.loop-k.row so_far,
-      has_quotient m l s ks e (k - 1) c.loop-k.multipliers c.loop-k.row so_far,
-    ) in
-    record {
-      sound = here.0.0;
-      codes = (so_far.codes, here.0.1, here.0.2);
-      room = c.loop-k.invariant.1;
-      divides = here.1;
-    }
+    record { formed = known.1; codes = c.loop-k.invariant.0.codes; divides = known.2 }
 
 pub loop-k-preserved : goal.loop-k-preserved
 loop-k-preserved g c =
-    let m = g.S.Scale.meaning c.args.scale.now in
-    let l = g.met.S.Scale.lawful c.args.scale.now in
-    let s = shape c.args.layout.now in
-    let e = equation c.args.tie.now in
+    let tie = c.args.tie.now in
+    let m = g.S.Scale.meaning tie.scale.now in
+    let s = shape tie.layout.now in
     let ks = vec_items c.args.table.now.standing in
     let k = c.loop-k.k in
     let ys = c.loop-k.multipliers in
-    let count : c.len-count.result ≡ length ks = c.len-count.ensures ∙ c.args.table.now.standing.ok.0 in
-    let below : k - 1 < length ks = omega (arith, c.loop-k-test.true, c.loop-k.auto.k) in
+    let t = c.index-standing.result.now in
+    let y = c.settle.result in
+    let below : k - 1 < length ks =
+    omega (arith, c.loop-k-test.true, c.loop-k.auto.k, c.len-count.ensures, c.args.table.now.standing.ok.0)
+    in
     let long = c.loop-k.auto.multipliers ∙ length-set c.args.multipliers.now c.len-count.result c.step_power-lead.result in
-    let room : k - 1 < length ys = omega (arith, c.requires.room, c.len-count.ensures) in
-    let at : c.index.result.now ≡ nth_standing ks (k - 1) = read_is ks (k - 1) c.index.result.now below c.index.ensures in
-    let so_far : Refuting m l s ks e (suc (k - 1)) ys c.loop-k.row =
-    subst (λ (n : ℕ). Refuting m l s ks e n ys c.loop-k.row) (less_one k c.loop-k-test.true) c.loop-k.invariant.0
-    in
-    let settled : Settled m s (nth_standing ks (k - 1)) c.loop-k.row c.settle.new.row c.settle.result =
-    subst (λ (t : Standing). Settled m s t c.loop-k.row c.settle.new.row c.settle.result) at c.settle.ensures
-    in
-    let next =
-    step m l s ks e (k - 1) ys c.loop-k.row so_far settled.quotient
-    (m.product c.settle.result (power m (digits m - depth s (equation_of (nth_standing ks (k - 1)))))) c.settle.new.row
-    below room settled.divides
-    (ap (λ a. m.product a (power m (digits m - depth s (equation_of (nth_standing ks (k - 1)))))) settled.is)
-    settled.codes settled.added
-    in (
-      subst (λ (y : ℕ). Refuting m l s ks e (k - 1) (set ys (k - 1) y) c.settle.new.row) (sym settled.is) next,
-      c.settle.auto.row ∙ c.loop-k.invariant.1,
-      get_or-set_other ys (k - 1) c.len-count.result c.settle.result 0 (λ f. omega arith) ∙ c.loop-k.invariant.2,
-      λ i h. get_or-set_other ys (k - 1) i c.settle.result 0 (λ f. omega arith) ∙ c.loop-k.invariant.3 i h,
+    let room : k - 1 < length ys = omega (arith, c.requires.room, c.len-count.ensures) in (
+      next_settled m (g.met.S.Scale.lawful tie.scale.now) s ks (equation tie.tie) k ys c.loop-k.row t c.loop-k-test.true below
+          c.index-standing.ensures c.loop-k.invariant.0 c.settle.new.row y room
+          (subst (λ (e : Equation). Settled m s e t.pivot c.loop-k.row c.settle.new.row y) c.tie.ensures c.settle.ensures),
+      get_or-set_other ys (k - 1) c.len-count.result y 0 (λ f. omega arith) ∙ c.loop-k.invariant.1,
+      λ i h. get_or-set_other ys (k - 1) i y 0 (λ f. omega arith) ∙ c.loop-k.invariant.2 i h,
     )
 
 pub returns : goal.returns
 returns g c =
-    let m = g.S.Scale.meaning c.args.scale.now in
-    let l = g.met.S.Scale.lawful c.args.scale.now in
-    let s = shape c.args.layout.now in
-    let e = equation c.args.tie.now in
+    let m = g.S.Scale.meaning c.args.tie.now.scale.now in
+    let l = g.met.S.Scale.lawful c.args.tie.now.scale.now in
+    let s = shape c.args.tie.now.layout.now in
+    let e = equation c.args.tie.now.tie in
     let table = c.args.table.now in
     let ks = vec_items table.standing in
     let xs = vec_items table.rows in
-    let d = c.args.measured.now in
+    let pivots = c.requires.measures.pivots in
+    let p = c.args.measured.now.pivot in
     let ys = c.loop-k.multipliers in
     let count : c.len-count.result ≡ length ks = c.len-count.ensures ∙ table.standing.ok.0 in
-    let v = m.level (get_or d.products d.pivot 0) in
+    let v = m.level p.divisor in
     let none : c.loop-k.k ≡ 0 = omega (arith, c.loop-k-test.false) in
     let ended = subst (λ (n : ℕ). Refuting m l s ks e n ys c.loop-k.row) none c.loop-k.invariant.0 in
-    let level : c.level-level.result ≡ v = level_is m l _ _ (c.requires.measures.codes d.pivot) c.level-level.ensures in
     let lead_is : c.step_power-lead.result ≡ power m (digits m - v) =
-    c.step_power-lead.ensures ∙ ap (power m) (ap₂ (λ a b. a - b) (ap (λ k. k.length) c.mark.ensures) level)
+    c.step_power-lead.ensures ∙ ap (power m) c.fixed.ensures
     in
-    let sounds = All-push (Sound m s) (ledger table) e (stands_sound m l s table c.requires.within c.requires.stands) c.requires.sound in
+    let sounds = All-push (Sound m s) (ledger table) e (stands_sound m l s table c.requires.within c.requires.stands) c.args.tie.now.sound in
     let solves = stands_solved m l s table c.requires.within c.requires.stands in
-    let most = l.level_most (get_or d.products d.pivot 0) (c.requires.measures.codes d.pivot) in
+    let most = l.level_most p.divisor pivots.formed.divisor in
     let short : m.level (rest m s e xs) < v = subst (λ (a : ℕ). m.level a < v) c.requires.measures.missing c.requires.short in
     let longer : length (map equation_of ks ++ (e ∷ [])) ≡ suc (length ks) = omega (arith, length-append (map equation_of ks) (e ∷ []), length-map ks equation_of) in (
       done m l s ks e xs ys c.loop-k.row c.requires.within sounds solves ended v
-          (ap (λ i. get_or ys i 0) (sym count) ∙ c.loop-k.invariant.2 ∙ lead_is) short most,
+          (ap (λ i. get_or ys i 0) (sym count) ∙ c.loop-k.invariant.1 ∙ lead_is) short most,
       λ i h.
-          c.loop-k.invariant.3 i (omega arith)
+          c.loop-k.invariant.2 i (omega arith)
           ∙ get_or-set_other c.args.multipliers.now c.len-count.result i c.step_power-lead.result 0 (λ f. omega arith),
     )

@@ -1,66 +1,84 @@
-use Rattle.std.proofs.Common.{◌≡◌, ℕ, ◌-◌, length, sym, refl, ap, ◌∙◌, subst, ap₂, arith}
-use Rattle.scale.specs.Meaning.{Code, digits, power}
+use Rattle.std.proofs.Common.{◌≡◌, ℕ, ◌+◌, ◌-◌, ◌*◌, ◌<◌, length, get_or, sym, refl, ap, ◌∙◌, subst, subst₂, ap₂, arith}
+use Rattle.std.proofs.lemmas.Result.{MatchResult-at_ok}
+use Rattle.scale.specs.Meaning.{Code, Quotient, digits, power}
 use Rattle.scale.proofs.Codes.{power_code}
-use Rattle.ties.specs.Equations.{depth, equation, total}
-use Rattle.ties.specs.Layouts.{shape}
-use Rattle.ties.proofs.Places.{layout_sized, places_some}
-use Rattle.book.specs.Dividing.{Divides}
-use Rattle.book.specs.Sheets.{generator_of}
-use Rattle.book.proofs.Filling.{negative_is, product_is, sum_is, zeros_codes}
+use Rattle.ties.specs.Equations.{depth, equation}
+use Rattle.ties.specs.Layouts.{places, shape}
+use Rattle.book.proofs.Filling.{all_codes, negative_is, part_codes, product_is, sum_is}
+use Rattle.book.proofs.Spots.{cut_at, cut_long, row_inside, total_cut}
 use Rattle.book.proofs.measuring.measure.Goals as goal
 
-pub multiply_out-requires : goal.multiply_out-requires
-multiply_out-requires g c =
-    let m = g.S.Scale.meaning c.args.scale.now in
-    let l = g.met.S.Scale.lawful c.args.scale.now in
-    let sound = c.requires.sound in
-    record {
-      exist = sound.exist;
-      factors = λ i h. (sound.codes i (omega arith)).0 h;
-      codes = (c.requires.codes, zeros_codes m l 32, subst (Code m) (sym c.raise_to-raise.ensures) (power_code m l _));
-      inside = (c.requires.size, refl);
-    }
+pub total_at-requires-clause-codes : goal.total_at-requires-clause-codes
+total_at-requires-clause-codes g c =
+    let m = g.S.Scale.meaning c.args.tie.now.scale.now in
+    let l = g.met.S.Scale.lawful c.args.tie.now.scale.now in
+    part_codes m l 0 _ c.args.rows.now c.requires.codes
 
-pub scan-pivot-requires : goal.scan-pivot-requires
-scan-pivot-requires g c =
-    let s = shape c.args.layout.now in
-    let some = places_some s (layout_sized c.args.layout.now) in
-    let n = c.places-n.ensures in
-    let long = c.multiply_out.auto.products in
-    record {
-      codes = c.multiply_out.ensures.codes;
-      some = omega arith;
-      inside = (omega arith, n.1);
-    }
+pub slice_bounds-try_from-end : goal.slice_bounds-try_from-end
+slice_bounds-try_from-end g c =
+    let n = c.places-n.result in
+    let s = shape c.args.tie.now.layout.now in
+    let is = c.places-n.ensures.0 in
+    let long : length c.args.rows.now ≡ n + n * n = c.requires.size ∙ ap (λ k. k + k * k) (sym is) in
+    let below : c.lowest-number.result < n =
+    omega (arith, c.lowest-number.ensures.0, ap length c.deref.ensures.0, c.multiply_out-products.ensures.count)
+    in
+    omega (arith, row_inside n c.lowest-number.result below)
 
 pub returns : goal.returns
 returns g c =
-    let m = g.S.Scale.meaning c.args.scale.now in
-    let l = g.met.S.Scale.lawful c.args.scale.now in
-    let s = shape c.args.layout.now in
-    let e = equation c.args.tie.now in
+    let m = g.S.Scale.meaning c.args.tie.now.scale.now in
+    let l = g.met.S.Scale.lawful c.args.tie.now.scale.now in
+    let s = shape c.args.tie.now.layout.now in
+    let e = equation c.args.tie.now.tie in
     let rows = c.args.rows.now in
-    let raise = c.raise_to-raise.result in
-    let raise_is : raise ≡ power m (digits m - depth s e) = c.raise_to-raise.ensures in
+    let ds = c.multiply_out-products.result.items in
+    let qs = c.divide.result.items in
+    let p = c.lowest-number.result in
+    let raise = c.raise-raise.result in
+    let raise_is : raise ≡ power m (digits m - depth s e) = c.raise-raise.ensures in
     let raise_code : Code m raise = subst (Code m) (sym raise_is) (power_code m l (digits m - depth s e)) in
-    let right_code = (c.requires.sound.codes (length e.terms) (omega arith)).1 refl in
+    let right_code = (c.args.tie.now.sound.codes (length e.terms) (omega arith)).1 refl in
     let reached =
     product_is m l raise c.total_at.result c.product-reached.result raise_code c.total_at.ensures.0 c.product-reached.ensures
     in
     let right = product_is m l raise e.right c.product.result raise_code right_code c.product.ensures in
     let away = negative_is m l c.product-reached.result c.negative.result reached.0 c.negative.ensures in
-    let sum = sum_is m l c.product.result c.negative.result c.sum-rest.result right.0 away.0 c.sum-rest.ensures in
+    let sum = sum_is m l c.product.result c.negative.result c.sum.result right.0 away.0 c.sum.ensures in
+    let at_point = total_cut m s e.terms rows 0 0 _ c.args.tie.now.sound.exist refl c.places-n.ensures.0 in
+    let chosen = rw c.deref.ensures.0 at c.lowest-number.ensures in
+    let divided = rw c.deref-3.ensures.0 at c.divide.ensures in
+    let number : p < places s = omega (arith, chosen.0, c.multiply_out-products.ensures.count) in
+    let divisor_is = ap (λ xs. get_or xs p 0) c.deref-2.ensures.0 in
+    let row = (MatchResult-at_ok _ _ _ c.unwrap.ensures c.try_from.ensures).0 in
+    let n_is = c.places-n.ensures.0 in
+    let at_is = ap (λ n. n + p * n) n_is in
     record {
-      codes = c.multiply_out.ensures.codes;
-      products = λ i h.
-          c.multiply_out.ensures.products i h ∙ ap (λ p. m.product p (total m e.terms (generator_of s rows i))) raise_is;
-      divides = subst (λ (n : ℕ). Divides m c.multiply_out.new.products c.divide_before.new.quotients n c.scan-pivot.result)
-          c.places-n.ensures.0 c.divide_before.ensures;
+      pivots =
+          record {
+            formed =
+                record {
+                  number = number;
+                  row =
+                      ap length row
+                      ∙ cut_long rows _ _ _ (places s) at_is (omega (arith, n_is))
+                      (omega (arith, row_inside (places s) p number, c.requires.size));
+                  row_codes = rw row (part_codes m l _ _ rows c.requires.codes);
+                  divisor = subst (Code m) (sym divisor_is) (c.multiply_out-products.ensures.codes p);
+                  quotients = divided.0 ∙ c.multiply_out-products.ensures.count;
+                  quotient_codes = all_codes m l qs (λ i h. (divided.1 i (omega (arith, divided.0))).0);
+                };
+            row = λ j h. ap (λ xs. get_or xs j 0) row ∙ cut_at rows _ _ _ j at_is (omega arith);
+            divisor = divisor_is ∙ c.multiply_out-products.ensures.products p number;
+            divides = λ i h.
+                subst₂ (λ (a b : ℕ). Quotient m a b (get_or qs i 0)) (c.multiply_out-products.ensures.products i h) (sym divisor_is)
+                (divided.1 i (omega (arith, c.multiply_out-products.ensures.count)));
+          };
       missing =
           sum.1
           ∙ ap₂ m.sum
           (right.1 ∙ ap (λ p. m.product p e.right) raise_is)
           (away.1
           ∙ ap m.negative
-          (reached.1 ∙ ap₂ m.product raise_is c.total_at.ensures.1));
+          (reached.1 ∙ ap₂ m.product raise_is (c.total_at.ensures.1 ∙ at_point)));
     }

@@ -3,32 +3,31 @@ use Rattle.scale.specs.Meaning.{summed}
 use Rattle.ties.specs.Equations.{code_at, term_at}
 use Rattle.ties.specs.Layouts.{shape}
 use Rattle.ties.proofs.Places.{place_below}
-use Rattle.book.specs.Rows.{row_at}
+use Rattle.book.specs.Rows.{row_of}
 use Rattle.book.proofs.Filling.{sum_product_is}
 use Rattle.book.proofs.rows.total_at.Goals as goal
 
-pub bounds-rows-at : goal.bounds-rows-at
-bounds-rows-at g c =
-    let below = place_below (shape c.args.layout.now) _ _ (c.requires.exist c.loop-term.term-index c.loop-term-test.true) in
+pub bounds-row-place : goal.bounds-row-place
+bounds-row-place g c =
+    let below = place_below (shape c.args.tie.now.layout.now) _ _ (c.args.tie.now.sound.exist c.loop-term.term-index c.loop-term-test.true) in
     omega (arith, c.place.ensures)
 
 pub loop-term-preserved : goal.loop-term-preserved
 loop-term-preserved g c =
-    let m = g.S.Scale.meaning c.args.scale.now in
-    let l = g.met.S.Scale.lawful c.args.scale.now in
+    let m = g.S.Scale.meaning c.args.tie.now.scale.now in
+    let l = g.met.S.Scale.lawful c.args.tie.now.scale.now in
     let i = c.loop-term.term-index in
-    let t = term_at c.args.terms.now i in
-    let s = shape c.args.layout.now in
-    let rows = c.args.rows.now in
-    let at = c.args.at in
-    let x : ℕ = get_or rows (at + c.place.result) 0 in
+    let t = term_at c.args.tie.now.tie.terms.now i in
+    let s = shape c.args.tie.now.layout.now in
+    let row = c.args.row.now in
+    let x : ℕ = get_or row c.place.result 0 in
     let done =
     sum_product_is m l c.loop-term.total t.factor x c.product.result c.sum-total.result
-    c.loop-term.invariant.0 (c.requires.factors i c.loop-term-test.true) (c.requires.codes (at + c.place.result))
+    c.loop-term.invariant.0 ((c.args.tie.now.sound.codes i (omega (arith, c.loop-term-test.true))).0 c.loop-term-test.true) (c.requires.codes c.place.result)
     c.product.ensures c.sum-total.ensures
     in
-    let is : x ≡ code_at (row_at s rows at) t = ap (λ p. get_or rows (at + p) 0) c.place.ensures in
-    let F : ℕ → ℕ = λ k. m.product (term_at c.args.terms.now k).factor (code_at (row_at s rows at) (term_at c.args.terms.now k)) in
+    let is : x ≡ code_at (row_of s row) t = ap (λ p. get_or row p 0) c.place.ensures in
+    let F : ℕ → ℕ = λ k. m.product (term_at c.args.tie.now.tie.terms.now k).factor (code_at (row_of s row) (term_at c.args.tie.now.tie.terms.now k)) in
     let more : c.sum-total.result ≡ summed m (i + 1) F =
     done.1 ∙ ap₂ (λ a b. m.sum a (m.product t.factor b)) c.loop-term.invariant.1 is ∙ ap (λ n. summed m n F) (sym (add-one i))
     in

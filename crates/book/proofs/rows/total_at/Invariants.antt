@@ -2,15 +2,15 @@ use Rattle.std.proofs.Common.{◌≡◌}
 use Rattle.scale.specs.Meaning.{Code, summed}
 use Rattle.ties.specs.Equations.{code_at, term_at}
 use Rattle.ties.specs.Layouts.{shape}
-use Rattle.book.specs.Rows.{row_at}
+use Rattle.book.specs.Rows.{row_of}
 use Rattle.book.proofs.rows.total_at.Given as goal
 
 abbrev pub invariant-loop-term : goal.invariant-loop-term
 invariant-loop-term g l =
-    let m = g.S.Scale.meaning l.scale in
+    let m = g.S.Scale.meaning l.tie.scale.now in
     Code m l.total
     × (
     l.total
     ≡ summed m l.term-index
-    (λ i. m.product (term_at l.terms i).factor (code_at (row_at (shape l.layout) l.rows l.at) (term_at l.terms i)))
+    (λ i. m.product (term_at l.tie.tie.terms.now i).factor (code_at (row_of (shape l.tie.layout.now) l.row) (term_at l.tie.tie.terms.now i)))
     )

@@ -1,5 +1,4 @@
-use Rattle.std.proofs.Common.{◌<◌, [], ◌∷◌, length, vec_items, sym, refl, subst, arith, length-append}
-use Rattle.scale.specs.Meaning.{Code}
+use Rattle.std.proofs.Common.{◌<◌, [], ◌∷◌, length, vec_items, refl, arith, length-append}
 use Rattle.ties.specs.Equations.{equation}
 use Rattle.ties.specs.Layouts.{shape}
 use Rattle.book.specs.Measures.{Measures}
@@ -12,23 +11,24 @@ use Rattle.book.proofs.book.posting.Book+S+Open.post.Goals as goal
 pub measure-measured-requires : goal.measure-measured-requires
 measure-measured-requires g c =
     let rows = rows_sheet g.met.S.Scale.lawful c.self.invariant _ c.deref.ensures.value in
-    record { sound = c.in_ok-check.ensures.0; codes = rows.0; size = rows.1 }
+    record { codes = rw c.in_ok-tie.ensures.2 rows.0; size = rw c.in_ok-tie.ensures.3 rows.1 }
 
 pub quotient_of-requires : goal.quotient_of-requires
 quotient_of-requires g c =
     let b = c.self.inside in
+    let l = g.met.S.Scale.lawful b.scale in
+    let checked = c.in_ok-tie.ensures in
     let rows = rows_sheet g.met.S.Scale.lawful c.self.invariant _ c.deref.ensures.value in
-    let meas = c.measure-measured.ensures in (
-      subst (Code (g.S.Scale.meaning b.scale)) (sym meas.missing)
-          (rest_code _ (g.met.S.Scale.lawful b.scale) (shape b.layout) (equation c.args.tie.now) c.in_ok-check.ensures.0 _ rows.0),
-      meas.codes c.measure-measured.result.pivot,
+    let meas = rw (checked.1, checked.2, checked.3) at c.measure-measured.ensures in (
+      rw meas.missing (rest_code _ l (shape b.layout) (equation c.args.tie.now) checked.0 _ rows.0),
+      meas.pivots.formed.divisor,
     )
 
 pub take_in-requires-clause-codes : goal.take_in-requires-clause-codes
-take_in-requires-clause-codes g c = (rows_sheet g.met.S.Scale.lawful c.self.invariant _ refl).0
+take_in-requires-clause-codes g c = rw c.in_ok-tie.ensures.2 (rows_sheet g.met.S.Scale.lawful c.self.invariant _ refl).0
 
 pub take_in-requires-clause-size : goal.take_in-requires-clause-size
-take_in-requires-clause-size g c = (rows_sheet g.met.S.Scale.lawful c.self.invariant _ refl).1
+take_in-requires-clause-size g c = rw c.in_ok-tie.ensures.3 (rows_sheet g.met.S.Scale.lawful c.self.invariant _ refl).1
 
 pub take_in-requires-clause-free : goal.take_in-requires-clause-free
 take_in-requires-clause-free g c =
@@ -37,14 +37,18 @@ take_in-requires-clause-free g c =
     let s = shape b.layout in
     let e = equation c.args.tie.now in
     let d = c.measure-measured.result in
-    let meas : Measures m s e (vec_items b.table.rows) d = rw (← c.deref.ensures.value) c.measure-measured.ensures in
-    enough_free m (g.met.S.Scale.lawful b.scale) s b.table c.self.invariant.within c.self.invariant.stands e c.in_ok-check.ensures.0 d meas c.in-Some.ensures.0
+    let checked = c.in_ok-tie.ensures in
+    let meas : Measures m s e (vec_items b.table.rows) d =
+    rw (checked.1, checked.2, checked.3, c.deref.ensures.value) at c.measure-measured.ensures
+    in
+    rw checked.2 (enough_free m (g.met.S.Scale.lawful b.scale) s b.table c.self.invariant.within c.self.invariant.stands e checked.0 d meas c.in-Some.ensures.0)
 
 pub invariant_of-self : goal.invariant_of-self
 invariant_of-self g c =
     let b = c.self.inside in
     let ready = c.self.invariant in
-    let took = c.take_in.ensures in
+    let checked = c.in_ok-tie.ensures in
+    let took = rw (checked.1, checked.2, checked.3) at c.take_in.ensures in
     record {
       within = ready.within;
       stands = taken_stands (g.S.Scale.meaning b.scale) (g.met.S.Scale.lawful b.scale) (shape b.layout) b.table ready.within ready.stands
@@ -56,38 +60,44 @@ pub returns-in-Some-clause-answer : goal.returns-in-Some-clause-answer
 returns-in-Some-clause-answer g c =
     let b = c.self.inside in
     let ready = c.self.invariant in
+    let checked = c.in_ok-tie.ensures in
+    let took = rw (checked.1, checked.2, checked.3) at c.take_in.ensures in
     let room : length (ledger b.table) < 64 = omega (arith, ledger_length b.table, c.len.ensures, c.if-len-ge64.false) in
     rw (← c.self.view_is) (
       c.if-multipliers-lt64.false,
       accepted (g.S.Scale.meaning b.scale) (g.met.S.Scale.lawful b.scale) (shape b.layout) b.table c.take_in.new.table
-          (equation c.args.tie.now) c.take_in.result ready.within ready.stands c.in_ok-check.ensures.0 room c.take_in.ensures,
+          (equation c.args.tie.now) c.take_in.result ready.within ready.stands checked.0 room took,
     )
 
-pub returns-in-None-clause-answer : goal.returns-in-None-clause-answer
-returns-in-None-clause-answer g c =
+pub returns-clause-answer : goal.returns-clause-answer
+returns-clause-answer g c =
     let b = c.self.inside in
     let m = g.S.Scale.meaning b.scale in
     let s = shape b.layout in
     let e = equation c.args.tie.now in
     let d = c.measure-measured.result in
-    let sound = c.in_ok-check.ensures.0 in
     let ready = c.self.invariant in
-    let meas : Measures m s e (vec_items b.table.rows) d = rw (← c.deref.ensures.value) c.measure-measured.ensures in
+    let checked = c.in_ok-tie.ensures in
+    let meas : Measures m s e (vec_items b.table.rows) d =
+    rw (checked.1, checked.2, checked.3, c.deref.ensures.value) at c.measure-measured.ensures
+    in
     rw (← c.self.view_is) (
       c.if-multipliers-lt64.false,
-      sound,
+      checked.0,
       omega (arith, ledger_length b.table, c.len.ensures, c.if-len-ge64.false),
-      contradictory m (g.met.S.Scale.lawful b.scale) s b.table ready.within ready.stands e sound d meas c.in-None.ensures,
+      contradictory m (g.met.S.Scale.lawful b.scale) s b.table ready.within ready.stands e checked.0 d meas c.in-None.ensures,
     )
 
-pub returns-in-None-clause-list : goal.returns-in-None-clause-list
-returns-in-None-clause-list g c =
+pub returns-clause-list : goal.returns-clause-list
+returns-clause-list g c =
     let b = c.self.inside in
     let e = equation c.args.tie.now in
     let ready = c.self.invariant in
+    let checked = c.in_ok-tie.ensures in
+    let refuted = rw (checked.1, checked.2, checked.3) at c.refute.ensures in
     rw (← c.self.view_is) (
       shown (g.S.Scale.meaning b.scale) (g.met.S.Scale.lawful b.scale) (shape b.layout) b.table ready.within ready.stands e
-          c.refute.new.multipliers c.in_ok-check.ensures.0
-          (omega (arith, ledger_length b.table, c.len.ensures, c.if-len-ge64.false, c.refute.auto.multipliers, c.if-multipliers-lt64.false)) c.refute.ensures.0,
-      λ i h. c.refute.ensures.1 i (omega (arith, length-append (ledger b.table) (e ∷ []))),
+          c.refute.new.multipliers checked.0
+          (omega (arith, ledger_length b.table, c.len.ensures, c.if-len-ge64.false, c.refute.auto.multipliers, c.if-multipliers-lt64.false)) refuted.0,
+      λ i h. refuted.1 i (omega (arith, length-append (ledger b.table) (e ∷ []))),
     )

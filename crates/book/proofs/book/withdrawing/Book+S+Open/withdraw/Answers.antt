@@ -15,7 +15,7 @@ give_back-requires g c =
     let qs = vec_items c.take_last-last.new.self in
     let k = c.take_last-last.result in
     let step = last_step m s b.table qs k c.take_last-last.ensures.items c.self.invariant.stands in
-    record { stepped = (step.0, step.1, (built_codes m s qs (length qs) step.0 step.1 step.2).0, step.3) }
+    record { stepped = (s, step.0, step.1, step.3) }
 
 pub invariant_of-self : goal.invariant_of-self
 invariant_of-self g c =
@@ -27,7 +27,7 @@ invariant_of-self g c =
     let new = c.give_back.new.table in
     let step = last_step m s b.table qs k c.take_last-last.ensures.items c.self.invariant.stands in
     let whole = built_codes m s qs (length qs) step.0 step.1 step.2 in
-    let back = c.give_back.ensures.0 step.0 step.1 whole.0 whole.1 step.3 in
+    let back = c.give_back.ensures.0 s step.0 step.1 whole.0 whole.1 step.3 in
     let standing : vec_items new.standing ≡ qs = ap vec_items c.give_back.ensures.1 in
     let stands : Stands m s new =
     subst (λ (q : List Standing). Built m s q (length q) (vec_items new.rows) new.free) (sym standing)

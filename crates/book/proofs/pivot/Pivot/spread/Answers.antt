@@ -1,0 +1,78 @@
+use Rattle.std.proofs.Common.{ℕ, ◌+◌, ◌*◌, List, length, get_or, sym, refl, ap, subst, arith}
+use borrow.Rule.Slice.PartMut.{put_mid}
+use Rattle.book.specs.Rows.{Codes}
+use Rattle.book.proofs.Filling.{filled, part_codes, put_codes}
+use Rattle.book.proofs.Spots.{row_inside}
+use Rattle.book.proofs.Steps.{Spreading, spread, spread_more, spread_none, spread_pass}
+use Rattle.book.proofs.pivot.Pivot.spread.Goals as goal
+
+pub add_multiple-requires-clause-codes : goal.add_multiple-requires-clause-codes
+add_multiple-requires-clause-codes g c =
+    let m = g.S.Scale.meaning c.args.scale.now in
+    let l = g.met.S.Scale.lawful c.args.scale.now in (
+      part_codes m l 0 c.len-n.result c.args.rows.now c.requires.codes.0,
+      subst (Codes m) (sym c.deref.ensures.0) c.requires.formed.row_codes,
+      c.requires.codes.1,
+    )
+
+pub loop-i-init : goal.loop-i-init
+loop-i-init g c =
+    let m = g.S.Scale.meaning c.args.scale.now in
+    let l = g.met.S.Scale.lawful c.args.scale.now in (
+      put_codes m l 0 c.len-n.result c.args.rows.now c.add_multiple.new.to c.requires.codes.0 c.add_multiple.ensures.codes,
+      spread_none m _ _ _ _ _,
+    )
+
+pub add_multiple-requires-then-i-self-clause-codes : goal.add_multiple-requires-then-i-self-clause-codes
+add_multiple-requires-then-i-self-clause-codes g c =
+    let m = g.S.Scale.meaning c.args.scale.now in
+    let l = g.met.S.Scale.lawful c.args.scale.now in (
+      part_codes m l _ _ c.loop-i.rows c.loop-i.invariant.0,
+      subst (Codes m) (sym c.deref-then-i-self.ensures.0) c.requires.formed.row_codes,
+      c.requires.codes.2 c.loop-i.i,
+    )
+
+pub loop-i-preserved : goal.loop-i-preserved
+loop-i-preserved g c =
+    let m = g.S.Scale.meaning c.args.scale.now in
+    let l = g.met.S.Scale.lawful c.args.scale.now in
+    let k = c.args.self.now in
+    let row = k.row.items in
+    let n : ℕ = length row in
+    let i = c.loop-i.i in
+    let fs = c.args.factors.now in
+    let cur = c.loop-i.rows in
+    let f : ℕ → ℕ → ℕ = λ j a. m.sum a (m.product (get_or fs i 0) (get_or row j 0)) in
+    let inside = row_inside n i (omega (arith, c.requires.size)) in
+    let P : List ℕ → Type 0 =
+    λ xs. Codes m xs × Spreading m n k.number row fs (i + 1) (put_mid 0 c.len-n.result c.args.rows.now c.add_multiple.new.to) xs
+    in
+    elim c.if-i-self.branch [
+      | goal.then-i-self w ↦
+          let add = w.add_multiple-then-i-self in
+          subst P (sym w.rows-is) (
+            put_codes m l _ _ cur add.new.to c.loop-i.invariant.0 add.ensures.codes,
+            spread_more m n k.number row fs i _ cur _ w.if-i-self.true
+                (filled n (n + i * n) _ _ f cur add.new.to (ap (λ k. k + i * k) c.len-n.ensures.value) (omega arith) (omega arith)
+                add.auto.to
+                (rw w.deref-then-i-self.ensures.0 at add.ensures.added))
+                c.loop-i.invariant.1,
+          )
+      | goal.else-i-self w ↦
+          subst P (sym w.rows-is) (
+            c.loop-i.invariant.0,
+            spread_pass m n k.number row fs i _ cur w.if-i-self.false c.loop-i.invariant.1,
+          )
+    ]
+
+pub returns-clause-spread : goal.returns-clause-spread
+returns-clause-spread g c =
+    let m = g.S.Scale.meaning c.args.scale.now in
+    let k = c.args.self.now in
+    let row = k.row.items in
+    let f : ℕ → ℕ → ℕ = λ j a. m.sum a (m.product c.args.shift (get_or row j 0)) in
+    spread m (length row) k.number row c.args.factors.now c.args.shift c.loop-i.i c.args.rows.now _ c.loop-i.rows
+    (omega arith)
+    (filled (length row) 0 0 c.len-n.result f c.args.rows.now c.add_multiple.new.to refl c.len-n.ensures.value (omega arith)
+    c.add_multiple.auto.to (rw c.deref.ensures.0 at c.add_multiple.ensures.added))
+    c.loop-i.invariant.1
