@@ -46,7 +46,6 @@ pub fn give_back<S: Scale>(scale: &S, table: &mut Table, last: &Standing)
     requires stepped { (s : Shape) × (xs : List ℕ) × (g : ℕ) × Stepped (S.Scale.meaning scale.now) s last.now xs table.old.rows.items g table.old.free }
     ensures { GivenBack (S.Scale.meaning scale.now) last.now table.old table.new }
 {
-    last.pivot
-        .turn_back(scale, &mut table.rows, last.shift);
+    last.pivot.turn_back(scale, &mut table.rows, last.shift);
     table.free = last.free;
 }
