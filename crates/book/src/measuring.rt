@@ -27,10 +27,8 @@ fn multiply_out<S: Scale>(tie: &SoundTie<S>, rows: &[u32]) -> ArrayVec<u32, 32>
     let n = tie.layout.places();
     let raise = tie.raise();
     let mut products = ArrayVec::new();
-    for i in 0..n {
-        let at = n + i * n;
-        let total = total_at(tie, &rows[at..at + n]);
-        products.push(tie.scale.product(raise, total));
+    for row in rows[n..].chunks_exact(n) {
+        products.push(tie.scale.product(raise, total_at(tie, row)));
     }
     products
 }

@@ -18,10 +18,8 @@ pub fn settled_digits<S: Scale>(tie: &SoundTie<S>, rows: &[u32]) -> u8
 {
     let n = tie.layout.places();
     let mut settled = tie.layout.width(tie.tie.target);
-    for i in 0..n {
-        let at = n + i * n;
-        let total = total_at(tie, &rows[at..at + n]);
-        settled = settled.min(tie.scale.level(total));
+    for row in rows[n..].chunks_exact(n) {
+        settled = settled.min(tie.scale.level(total_at(tie, row)));
     }
     settled
 }

@@ -1,41 +1,77 @@
-use Rattle.std.proofs.Common.{◌≡◌, ◌+◌, ◌*◌, ap, ap₂, ◌∙◌, sym, subst, arith}
+use Rattle.std.proofs.Common.{◌≡◌, ℕ, ◌+◌, ◌*◌, length, ap, ap₂, ◌∙◌, sym, subst, arith}
+use Rattle.std.proofs.lemmas.List.{length_push, take_rest}
 use Rattle.scale.specs.Meaning.{Code}
 use Rattle.scale.proofs.Codes.{power_code}
-use Rattle.ties.specs.Equations.{equation}
+use Rattle.ties.specs.Equations.{equation, total}
 use Rattle.ties.specs.Layouts.{shape}
-use Rattle.book.specs.Rows.{Codes}
+use Rattle.book.specs.Rows.{Codes, row_of}
 use Rattle.book.specs.Sheets.{generator_of}
 use Rattle.book.specs.Standing.{raised}
-use Rattle.book.proofs.Filling.{holds_push, part_codes, product_is, push_codes}
-use Rattle.book.proofs.Spots.{total_cut}
+use Rattle.book.proofs.Filling.{holds_push, part_codes, product_is, push_codes, zeros_codes}
+use Rattle.book.proofs.Spots.{total_cut, walk_end, walk_next, walk_none}
 use Rattle.book.proofs.measuring.multiply_out.Goals as goal
 
-pub total_at-total-requires-clause-codes : goal.total_at-total-requires-clause-codes
-total_at-total-requires-clause-codes g c =
+pub total_at-requires-clause-codes : goal.total_at-requires-clause-codes
+total_at-requires-clause-codes g c =
+    let tie = c.args.tie.now in
+    let n = c.places-n.result in
+    let is = c.places-n.ensures.0 in
+    let steps = c.in-Some.ensures.steps in
+    let next = walk_next tie.layout.now n is c.args.rows.now c.requires.size _ _ _ c.loop-row.invariant.0 _ c.in-Some.row.now _ steps.0 steps.1.0 steps.1.1 in
+    rw next.0 (part_codes _ (g.met.S.Scale.lawful tie.scale.now) _ _ c.args.rows.now c.requires.codes)
+
+pub loop-row-init : goal.loop-row-init
+loop-row-init g c =
     let m = g.S.Scale.meaning c.args.tie.now.scale.now in
     let l = g.met.S.Scale.lawful c.args.tie.now.scale.now in
-    part_codes m l _ _ c.args.rows.now c.requires.codes
+    let rows = c.args.rows.now in
+    let it = c.chunks_exact-row-items.ensures in (
+      rw c.into_iter-row-iterator.ensures.into_iter_gives (walk_none c.places-n.result rows _ _ it.size (it.rest ∙ take_rest rows c.places-n.result)),
+      ap length c.new-products.ensures,
+      rw c.new-products.ensures (zeros_codes m l 0),
+      λ i h. absurd (omega arith),
+    )
 
-pub loop-i-preserved : goal.loop-i-preserved
-loop-i-preserved g c =
+pub loop-row-preserved : goal.loop-row-preserved
+loop-row-preserved g c =
     let tie = c.args.tie.now in
     let m = g.S.Scale.meaning tie.scale.now in
     let l = g.met.S.Scale.lawful tie.scale.now in
     let s = shape tie.layout.now in
     let e = equation tie.tie in
     let rows = c.args.rows.now in
-    let i = c.loop-i.i in
-    let cur = c.loop-i.products.items in
+    let n = c.places-n.result in
+    let is = c.places-n.ensures.0 in
+    let steps = c.in-Some.ensures.steps in
+    let k : ℕ = length c.loop-row.yielded in
+    let cur = c.loop-row.products.items in
+    let next = walk_next tie.layout.now n is rows c.requires.size _ _ _ c.loop-row.invariant.0 _ c.in-Some.row.now _ steps.0 steps.1.0 steps.1.1 in
+    let here : total m e.terms (row_of s c.in-Some.row.now) ≡ total m e.terms (generator_of s rows k) =
+    rw next.0 (total_cut m s e.terms rows _ _ _ tie.sound.exist (ap (λ n. n + k * n) is) is)
+    in
     let raise_code : Code m c.raise-raise.result = subst (Code m) (sym c.raise-raise.ensures) (power_code m l _) in
     let done =
-    product_is m l c.raise-raise.result c.total_at-total.result c.product.result raise_code c.total_at-total.ensures.0
-    c.product.ensures
+    product_is m l c.raise-raise.result c.total_at.result c.product.result raise_code c.total_at.ensures.0 c.product.ensures
     in
-    let same = total_cut m s e.terms rows _ _ _ tie.sound.exist (ap (λ n. n + i * n) c.places-n.ensures.0) (omega arith) in
-    let is : c.product.result ≡ raised m s e (generator_of s rows i) =
-    done.1 ∙ ap₂ m.product c.raise-raise.ensures (c.total_at-total.ensures.1 ∙ same)
-    in (
-      c.push.ensures.len ∙ ap (λ k. k + 1) c.loop-i.invariant.0,
-      subst (Codes m) (sym c.push.ensures.items) (push_codes m l cur _ c.loop-i.invariant.1 done.0),
-      holds_push i _ cur _ c.product.result c.push.ensures.items c.loop-i.invariant.0 is c.loop-i.invariant.2,
+    let product : c.product.result ≡ raised m s e (generator_of s rows k) =
+    done.1 ∙ ap₂ m.product c.raise-raise.ensures (c.total_at.ensures.1 ∙ here)
+    in
+    rw (length_push c.loop-row.yielded c.in-Some.row) (
+      next.1,
+      c.push.ensures.len ∙ ap (λ j. j + 1) c.loop-row.invariant.1,
+      subst (Codes m) (sym c.push.ensures.items) (push_codes m l cur _ c.loop-row.invariant.2 done.0),
+      holds_push k _ cur _ c.product.result c.push.ensures.items c.loop-row.invariant.1 product c.loop-row.invariant.3,
     )
+
+pub returns : goal.returns
+returns g c =
+    let tie = c.args.tie.now in
+    let end =
+    walk_end tie.layout.now c.places-n.result c.places-n.ensures.0 c.args.rows.now c.requires.size _ _ _ c.loop-row.invariant.0
+    c.in-None.ensures.steps.1.0
+    in
+    record {
+      codes = c.loop-row.invariant.2;
+      count = c.loop-row.invariant.1 ∙ end;
+      products = λ i h. c.loop-row.invariant.3 i (omega (arith, end));
+    }

@@ -1,4 +1,4 @@
-use Rattle.std.proofs.Common.{◌≡◌, ℕ, ◌+◌, ◌*◌, List, length, vec_items, refl, sym, ap, ◌∙◌, subst, subst₂}
+use Rattle.std.proofs.Common.{ℕ, ◌+◌, ◌*◌, List, length, vec_items, refl, sym, ap, ◌∙◌, subst, subst₂}
 use Rattle.std.proofs.lemmas.List.{with_items_is}
 use Rattle.ties.specs.Layouts.{places}
 use Rattle.book.specs.Turning.{Formed, Returned}
