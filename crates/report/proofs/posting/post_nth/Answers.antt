@@ -1,4 +1,4 @@
-use Rattle.std.proofs.Common.{replicate, ◌∙◌, subst, arith}
+use Rattle.std.proofs.Common.{replicate, ◌∙◌, subst}
 use Rattle.ties.specs.Equations.{Equation}
 use Rattle.book.specs.Posting.{Posted, PostedTo}
 use Rattle.report.proofs.posting.post_nth.Goals as goal
