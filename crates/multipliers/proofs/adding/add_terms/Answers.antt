@@ -1,4 +1,4 @@
-use Rattle.std.proofs.Common.{ℕ, ◌<◌, ◌∙◌, subst, arith, length-set}
+use Rattle.std.proofs.Common.{◌∙◌, arith, length-set}
 use Rattle.ties.specs.Layouts.{shape}
 use Rattle.multipliers.proofs.Growing.{inside, one_more, shares_none}
 use Rattle.multipliers.proofs.adding.add_terms.Goals as goal
@@ -9,13 +9,6 @@ loop-term-init g c =
     let m = g.S.Scale.meaning tie.scale.now in
     let l = g.met.S.Scale.lawful tie.scale.now in
     (c.told-row, λ by codes. (codes, shares_none m l (shape tie.layout.now) c.args.by by tie.tie.terms.now c.args.row.now codes))
-
-pub bounds-row-at : goal.bounds-row-at
-bounds-row-at g c =
-    let tie = c.args.tie.now in
-    let there = tie.sound.exist c.loop-term.term-index c.loop-term-test.true in
-    subst (λ (n : ℕ). c.place-at.result < n) c.loop-term.invariant.0
-    (inside tie.layout.now _ _ _ c.loop-term.row there c.place-at.ensures c.loop-term.invariant.0)
 
 pub loop-term-preserved : goal.loop-term-preserved
 loop-term-preserved g c =

@@ -8,9 +8,6 @@ use Rattle.multipliers.specs.Totals.{Shares}
 use Rattle.multipliers.proofs.Growing.{right_is, weight_is}
 use Rattle.multipliers.proofs.totals.Totals.add.Goals as goal
 
-pub invariant_of-self : goal.invariant_of-self
-invariant_of-self g c = record { all = c.add_terms.ensures.whole }
-
 pub returns : goal.returns
 returns g c =
     let tie = c.args.tie.now in
