@@ -3,6 +3,7 @@ mod Choosing
 mod Coding
 mod Counted
 mod Exactness
+pub mod Faultless
 mod Filling
 mod Posts
 mod Queries

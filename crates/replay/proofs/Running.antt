@@ -3,12 +3,9 @@ use Rattle.std.proofs.Common.{◌≡◌, ℕ, ◌≤◌, List, [], ◌∷◌, �
 use Rattle.std.specs.declared.alloc.Global.{Global}
 use Rattle.scale.specs.Meaning.{Meaning}
 use Rattle.ties.specs.declared.fault.TieFault.{TieFault}
-use Rattle.ties.specs.declared.fault.TieFault.TheVariants.{Target, Term as OfTerm}
-use Rattle.ties.specs.declared.fault.TermFault.TheVariants.{Absent, Order, NoCode, Coarse}
 use Rattle.ties.specs.Layouts.{Shape, shape}
 use Rattle.ties.specs.declared.tie.Tie.{Tie as TieOf}
 use Rattle.ties.specs.Equations.{Equation, equation}
-use Rattle.ties.specs.Faults.{Faulty, Sound}
 use Rattle.book.specs.declared.fault.PostFault.{PostFault}
 use Rattle.book.specs.declared.fault.PostFault.TheVariants.{List as Short, Tie, Full, Contradiction}
 use Rattle.book.specs.declared.fault.SheetFault.{SheetFault}
@@ -20,6 +17,7 @@ use Rattle.book.specs.Querying.{QueriedFrom, QueryStopped}
 use Rattle.book.specs.Posting.{Accepted, Listed, PostStopped, Posted, PostedTo}
 use Rattle.book.specs.Held.{Held}
 use Rattle.book.specs.Standing.{ledger}
+use Rattle.book.proofs.Faultless.{no_fault}
 use Rattle.replay.specs.declared.answer.Answer.{Answer}
 use Rattle.replay.specs.declared.answer.Answer.TheVariants as answer
 use Rattle.replay.specs.declared.call.Call.{Call}
@@ -39,14 +37,6 @@ run_more m s p (d ∷ cs) (b ∷ rs) between q c a ran step =
 run_more m s p [] (b ∷ rs) between q c a ran step = absurd ran
 run_more m s p (d ∷ cs) [] between q c a ran step = absurd ran
 
--- a tie at fault is not sound
-unsound : (m : Meaning) (s : Shape) (e : Equation) (f : TieFault) → Faulty m s e f → Sound m s e → ⊥
-unsound m s e Target faulty sound = faulty sound.target
-unsound m s e (OfTerm (Absent i)) faulty sound = faulty.1.1 (sound.exist i faulty.1.0)
-unsound m s e (OfTerm (Order i)) faulty sound = faulty.2.1 (sound.rise i faulty.2.0)
-unsound m s e (OfTerm (NoCode i)) faulty sound = faulty.3.1 (sound.codes i faulty.3.0)
-unsound m s e (OfTerm (Coarse i)) faulty sound = faulty.4.1 (sound.fine i faulty.4.0)
-
 -- a tie that posting refuses does not fit
 pub unfit :
     (m : Meaning) (s : Shape) (es : List Equation) (e : Equation) (ys : List ℕ) (f : PostFault)
@@ -54,7 +44,7 @@ pub unfit :
     → Fits m s es e ys
     → ⊥
 unfit m s es e ys Short stopped fits = omega (arith, fits.enough)
-unfit m s es e ys (Tie f) stopped fits = unsound m s e f stopped.1 fits.sound
+unfit m s es e ys (Tie f) stopped fits = no_fault m s e f fits.sound stopped.1
 unfit m s es e ys Full stopped fits = omega (arith, fits.room, stopped.2)
 unfit m s es e ys Contradiction stopped fits = stopped.3 fits.some.0 fits.some.1
 

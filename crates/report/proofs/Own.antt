@@ -1,24 +1,12 @@
--- The tie that states that a counter's code is 0 has no fault, and how places and counters go together.
+-- The tie that states that a counter's code is 0 is sound, and how places and counters go together.
 use Rattle.std.proofs.Common.{◌≡◌, ℕ, zero, suc, ◌+◌, ◌*◌, ◌/◌, ◌%◌, ◌<◌, List, length, get_or, set, sym, subst, arith, get_or-set_other, get_or-set_same, below_more}
 use lib.Arith.{digits_div, digits_mod}
 use Rattle.scale.specs.Meaning.{Laws, Meaning}
-use Rattle.ties.specs.declared.fault.TieFault.{TieFault}
-use Rattle.ties.specs.declared.fault.TieFault.TheVariants.{Target, Term as OfTerm}
-use Rattle.ties.specs.declared.fault.TermFault.TheVariants.{Absent, Order, NoCode, Coarse}
-use Rattle.ties.specs.Equations.{Equation}
-use Rattle.ties.specs.Faults.{Coded, Exists, Faulty, Fine, Sound}
+use Rattle.ties.specs.Faults.{Coded, Exists, Fine, Sound}
 use Rattle.ties.specs.declared.layout.Layout.{Layout}
 use Rattle.ties.specs.Layouts.{Has, Shape, counters_of, place, places, shape, width_of}
 use Rattle.ties.proofs.Places.{layout_sized, place_below, place_counter, places_most}
 use Rattle.report.specs.Reported.{own}
-
--- a sound tie has no fault
-pub no_fault : (m : Meaning) (s : Shape) (e : Equation) (f : TieFault) → Sound m s e → Faulty m s e f → ⊥
-no_fault m s e Target sound bad = bad sound.target
-no_fault m s e (OfTerm (Absent i)) sound bad = bad.1.1 (sound.exist i bad.1.0)
-no_fault m s e (OfTerm (Order i)) sound bad = bad.2.1 (sound.rise i bad.2.0)
-no_fault m s e (OfTerm (NoCode i)) sound bad = bad.3.1 (sound.codes i bad.3.0)
-no_fault m s e (OfTerm (Coarse i)) sound bad = bad.4.1 (sound.fine i bad.4.0)
 
 pub own_sound : (m : Meaning) → Laws m → (s : Shape) (h c : ℕ) → Has s h c → Sound m s (own m h c)
 own_sound m laws s h c has =

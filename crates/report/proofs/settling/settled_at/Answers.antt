@@ -1,6 +1,7 @@
 use Rattle.ties.specs.Layouts.{shape}
+use Rattle.book.proofs.Faultless.{no_fault}
 use Rattle.report.specs.Reported.{own}
-use Rattle.report.proofs.Own.{no_fault, own_sound}
+use Rattle.report.proofs.Own.{own_sound}
 use Rattle.report.proofs.settling.settled_at.Goals as goal
 
 -- the tie is sound
