@@ -1,10 +1,12 @@
 -- What divides a number has no higher level.
-use Rattle.std.proofs.Common.{ℕ, ◌<◌, ◌≤◌, List, sym, ap, ◌∙◌, arith}
+use Rattle.std.proofs.Common.{◌≡◌, ℕ, ◌+◌, ◌<◌, ◌≤◌, List, [], ◌∷◌, ◌++◌, length, get_or, refl, sym, subst, subst₂, ap, ◌∙◌, arith, below_more}
+use Rattle.std.proofs.lemmas.List.{get_or_append_left, get_or_push, length_push}
 use Rattle.scale.specs.Meaning.{Meaning, Laws, Code, Quotient}
 use Rattle.ties.specs.Layouts.{Shape, places}
 use Rattle.ties.specs.Equations.{Equation}
 use Rattle.book.specs.declared.pivot.Pivot.{Pivot}
 use Rattle.book.specs.Sheets.{generator_of}
+use Rattle.book.specs.Dividing.{Scanned}
 use Rattle.book.specs.Standing.{Pivots, raised}
 
 pub quotient_level :
@@ -22,3 +24,41 @@ pub least :
     → i < places s
     → m.level k.divisor ≤ m.level (raised m s e (generator_of s xs i))
 least m l s e xs k pivots i h = quotient_level m l _ _ _ pivots.formed.divisor (pivots.divides i h)
+
+-- one product more is scanned: the one chosen divides it, or it is chosen itself
+pub scanned_more :
+    (m : Meaning) (ds qs : List ℕ) (n p q : ℕ)
+    → Scanned m ds n p qs
+    → m.level (get_or ds p 0) ≤ m.level (get_or ds n 0)
+    → Quotient m (get_or ds n 0) (get_or ds p 0) q
+    → Scanned m ds (n + 1) p (qs ++ (q ∷ []))
+scanned_more m ds qs n p q before low quotient =
+    let P : ℕ → Type 0 = λ k. Quotient m (get_or ds (p + k) 0) (get_or ds p 0) (get_or (qs ++ (q ∷ [])) k 0) in
+    let last : P (length qs) =
+    subst₂ (λ (i c : ℕ). Quotient m (get_or ds i 0) (get_or ds p 0) c) (sym before.count)
+    (sym (get_or_push qs q 0 (length qs) refl)) quotient in
+    let old : (k : ℕ) → k < length qs → P k =
+    λ k h. subst (λ (c : ℕ). Quotient m (get_or ds (p + k) 0) (get_or ds p 0) c) (sym (get_or_append_left qs (q ∷ []) 0 k h)) (before.found k h) in
+    record {
+      lowest = (before.lowest.0, below_more (λ i. m.level (get_or ds p 0) ≤ m.level (get_or ds i 0)) n before.lowest.1 low);
+      count = omega (arith, length_push qs q, before.count);
+      found = λ k h. below_more P (length qs) old last k (omega (arith, length_push qs q));
+    }
+
+pub scanned_new :
+    (m : Meaning) (l : Laws m) (ds qs : List ℕ) (n p : ℕ)
+    → n < length ds
+    → Code m (get_or ds n 0)
+    → Scanned m ds n p qs
+    → m.level (get_or ds n 0) < m.level (get_or ds p 0)
+    → Scanned m ds (n + 1) n (m.one ∷ [])
+scanned_new m l ds qs n p inside code before low =
+    record {
+      lowest = (inside, below_more (λ i. m.level (get_or ds n 0) ≤ m.level (get_or ds i 0)) n (λ i h. omega (arith, low, before.lowest.1 i h)) (omega arith));
+      count = refl;
+      found = λ k h.
+          let first : 0 ≡ k = omega arith in
+          let at : n ≡ n + 0 = omega arith in
+          subst (λ (i : ℕ). Quotient m (get_or ds (n + i) 0) (get_or ds n 0) (get_or (m.one ∷ []) i 0)) first
+          (subst (λ (i : ℕ). Quotient m (get_or ds i 0) (get_or ds n 0) m.one) at (l.one_code, l.product_one _ code));
+    }

@@ -1,11 +1,17 @@
 -- A pivot among products.
-use Rattle.std.specs.Prelude.{◌≡◌, ℕ, ◌<◌, ◌≤◌, List, length, slice_index}
+use Rattle.std.specs.Prelude.{◌≡◌, ℕ, ◌+◌, ◌<◌, ◌≤◌, List, length, slice_index}
 use Rattle.scale.specs.Meaning.{Meaning, Quotient}
 
 -- none of the first n has a lower level than the p-th
 abbrev pub Lowest : Meaning → List ℕ → ℕ → ℕ → Type 0
 Lowest m ds n p =
     (p < length ds) × ((i : ℕ) → i < n → m.level (slice_index ds p) ≤ m.level (slice_index ds i))
+
+-- the p-th is chosen among the first n, and the quotients by it of those from it on are found
+pub record Scanned (m : Meaning) (ds : List ℕ) (n p : ℕ) (qs : List ℕ) : Type 0 where
+  pub lowest : Lowest m ds n p
+  pub count : p + length qs ≡ n
+  pub found : (k : ℕ) → k < length qs → Quotient m (slice_index ds (p + k)) (slice_index ds p) (slice_index qs k)
 
 -- a number divides each of the first list, and these are the quotients
 abbrev pub Divides : Meaning → List ℕ → ℕ → List ℕ → Type 0

@@ -1,7 +1,7 @@
 // The choice of a pivot among products: one that divides all of them, with the quotients.
 
 ghost use Rattle.std.specs.Prelude.{◌≡◌, ◌<◌, ◌≤◌, length, slice_index};
-ghost use Rattle.book.specs.Dividing.{Divides, Lowest};
+ghost use Rattle.book.specs.Dividing.{Divides, Scanned};
 ghost use Rattle.book.specs.Rows.{Codes};
 ghost use Rattle.scale.specs.Meaning.{Code, Divided};
 
@@ -20,34 +20,44 @@ pub fn quotient_of<S: Scale>(scale: &S, a: u32, b: u32) -> Option<u32>
     }
 }
 
-// The first of the least level, which divides all others.
-pub fn lowest<S: Scale>(scale: &S, products: &[u32]) -> usize
+// The last product that the one chosen before it does not divide, and the quotients by it of those from it on.
+pub fn scan<S: Scale>(scale: &S, products: &[u32]) -> (usize, ArrayVec<u32, 32>)
     requires codes { Codes (S.Scale.meaning scale.now) products.now }
     requires some { 1 ≤ length products.now }
-    ensures { Lowest (S.Scale.meaning scale.now) products.now (length products.now) result }
+    requires few { length products.now ≤ 32 }
+    ensures { Scanned (S.Scale.meaning scale.now) products.now (length products.now) result.0 result.1.items }
 {
     let mut pivot = 0;
-    let mut least = scale.level(products[0]);
+    let mut quotients = ArrayVec::new();
     for (i, product) in products.iter().enumerate() {
-        let level = scale.level(*product);
-        if level < least {
-            pivot = i;
-            least = level;
+        match quotient_of(scale, *product, products[pivot]) {
+            Some(quotient) => quotients.push(quotient),
+            None => {
+                pivot = i;
+                quotients.clear();
+                quotients.push(scale.one());
+            }
         }
     }
-    pivot
+    (pivot, quotients)
 }
 
-// The quotients of all products by one of the least level.
-pub fn divide<S: Scale>(scale: &S, products: &[u32], pivot: usize) -> ArrayVec<u32, 32>
+// The quotients of all products by the pivot's, where those from it on are found.
+pub fn complete<S: Scale>(
+    scale: &S,
+    products: &[u32],
+    pivot: usize,
+    found: &[u32],
+) -> ArrayVec<u32, 32>
     requires codes { Codes (S.Scale.meaning scale.now) products.now }
     requires few { length products.now ≤ 32 }
-    requires lowest { Lowest (S.Scale.meaning scale.now) products.now (length products.now) pivot }
+    requires scanned { Scanned (S.Scale.meaning scale.now) products.now (length products.now) pivot found.now }
     ensures { Divides (S.Scale.meaning scale.now) products.now (slice_index products.now pivot) result.items }
 {
     let mut quotients = ArrayVec::new();
-    for product in products {
+    for product in &products[..pivot] {
         quotients.push(quotient_of(scale, *product, products[pivot]).unwrap());
     }
+    quotients.try_extend_from_slice(found).unwrap();
     quotients
 }

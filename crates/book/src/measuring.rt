@@ -8,7 +8,7 @@ ghost use Rattle.book.specs.Standing.{raised};
 ghost use Rattle.ties.specs.Equations.{equation};
 ghost use Rattle.ties.specs.Layouts.{places, shape};
 
-use crate::dividing::{divide, lowest};
+use crate::dividing::{complete, scan};
 use crate::measured::Measured;
 use crate::pivot::Pivot;
 use crate::rows::total_at;
@@ -42,7 +42,7 @@ pub fn measure<S: Scale>(tie: &SoundTie<S>, rows: &[u32]) -> Measured
     let n = tie.layout.places();
     let scale = tie.scale;
     let products = multiply_out(tie, rows);
-    let number = lowest(scale, &products);
+    let (number, found) = scan(scale, &products);
     let at = n + number * n;
     let raise = tie.raise();
     let reached = scale.product(raise, total_at(tie, &rows[..n]));
@@ -51,7 +51,7 @@ pub fn measure<S: Scale>(tie: &SoundTie<S>, rows: &[u32]) -> Measured
             number,
             row: ArrayVec::try_from(&rows[at..at + n]).unwrap(),
             divisor: products[number],
-            quotients: divide(scale, &products, number),
+            quotients: complete(scale, &products, number, &found),
         },
         rest: scale.sum(scale.product(raise, tie.tie.right), scale.negative(reached)),
     }

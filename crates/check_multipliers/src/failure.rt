@@ -3,28 +3,22 @@ ghost use Rattle.check_multipliers.specs.declared.failure.Failure.TheVariants.{I
 ghost use Rattle.check_multipliers.specs.Failures.{WantsMemory};
 
 use std::alloc::{AllocError, AllocFailed};
-use std::{fmt, io};
+use std::io;
+use thiserror::Error;
 
 // Why no answer was printed, with the whole words and paths that its message names.
-#[derive(Debug, Drop)]
+#[derive(Debug, Drop, Error)]
 pub enum Failure {
+    #[error("usage: check_multipliers FILE NUMBER ..")]
     Usage,
     // a word that writes no number
+    #[error("no number below 4294967296: {0}")]
     Number(String),
     // a path that could not be opened
+    #[error("cannot read {0}: {1}")]
     File(String, io::Error),
+    #[error("{0}")]
     Io(io::Error),
-}
-
-impl fmt::Display for Failure {
-    fn fmt<W: fmt::Write>(&self, f: &mut fmt::Formatter<W>) -> fmt::Result {
-        match self {
-            Failure::Usage => write!(f, "usage: check_multipliers FILE NUMBER .."),
-            Failure::Number(word) => write!(f, "no number below 4294967296: {word}"),
-            Failure::File(path, error) => write!(f, "cannot read {path}: {error}"),
-            Failure::Io(error) => write!(f, "{error}"),
-        }
-    }
 }
 
 impl From<io::Error> for Failure {

@@ -15,16 +15,12 @@ use Rattle.report.specs.declared.answer.Stop.{Stop}
 use Rattle.report.specs.declared.fault.ReportFault.{ReportFault}
 use Rattle.report.specs.declared.fault.ReportFault.TheVariants.{File, Scale, Layout, Memory}
 
--- the scale that a file's mark names
-abbrev pub scale_of : List ℕ → Meaning
-scale_of f = named (file_mark f)
-
 -- a file whose ties can be posted: it is well formed, its mark makes a scale, and its layout is in bounds
 pub record Openable (f : List ℕ) : Type 0 where
   pub formed : WellFormed f
   pub numbers : Numbers (file_mark f)
   pub sized : Sized (file_shape f)
-  pub within : Within (scale_of f) (file_shape f)
+  pub within : Within (named (file_mark f)) (file_shape f)
 
 -- where posting stopped: nowhere, and then all ties stand, or at the first tie that does not, which is refused by those
 -- before it with its fault, the list of multipliers having 64 numbers
@@ -68,5 +64,5 @@ pub record Reported (m : Meaning) (s : Shape) (es : List Equation) (r : Report) 
 abbrev pub ReportStopped : List ℕ → ReportFault → Type 0
 ReportStopped f (File g) = Bad f g
 ReportStopped f (Scale g) = WellFormed f × (Numbers (file_mark f) → ⊥)
-ReportStopped f (Layout g) = WellFormed f × Numbers (file_mark f) × BadLayout (scale_of f) (file_shape f) g
+ReportStopped f (Layout g) = WellFormed f × Numbers (file_mark f) × BadLayout (named (file_mark f)) (file_shape f) g
 ReportStopped f Memory = Openable f

@@ -23,10 +23,7 @@ impl Report {
     pub fn settled_at(&self, place: usize) -> u8
         ensures { result ≡ slice_index self.now.settled place }
     {
-        match self.settled.get(place) {
-            Some(digits) => *digits,
-            None => 0,
-        }
+        self.settled.get(place).copied().unwrap_or(0)
     }
 }
 

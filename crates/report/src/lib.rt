@@ -3,8 +3,9 @@
 #![tactic(auto)]
 
 ghost use Rattle.std.specs.Prelude.{◌≡◌, MatchResult};
-ghost use Rattle.report.specs.Reported.{Openable, ReportStopped, Reported, scale_of};
-ghost use Rattle.tie_file.specs.Bodies.{equations, file_shape};
+ghost use Rattle.report.specs.Reported.{Openable, ReportStopped, Reported};
+ghost use Rattle.scales.specs.Kinds.{named};
+ghost use Rattle.tie_file.specs.Bodies.{equations, file_mark, file_shape};
 
 use crate::answer::Report;
 use crate::fault::ReportFault;
@@ -12,7 +13,7 @@ use crate::posting::post_all;
 use book::Book;
 use scales::AnyScale;
 use std::alloc::Global;
-use tie_file::{parts, verify};
+use tie_file::verify;
 
 pub mod answer;
 pub mod fault;
@@ -23,13 +24,11 @@ mod settling;
 // How many ties of the file stand, by the scale of the file's mark, how many digits they leave free, where and why
 // posting stopped, and how many digits of each counter's code are settled.
 pub fn report(heap: Global, file: &[u8]) -> Result<Report, ReportFault>
-    ensures { let f = file.now in MatchResult result (λ t. Openable f × Reported (scale_of f) (file_shape f) (equations f) t) (ReportStopped f) }
+    ensures { let f = file.now in MatchResult result (λ t. Openable f × Reported (named (file_mark f)) (file_shape f) (equations f) t) (ReportStopped f) }
 {
-    let ties = verify(file)?;
-    let Some(stated) = parts::layout_in(file) else {
-        return unreachable();
-    };
+    let whole = verify(file)?;
+    let stated = whole.layout();
     let scale = AnyScale::from_mark(stated.mark)?;
     let mut book = Book::new(heap, scale, stated.heads, stated.widths)?;
-    Ok(post_all(&mut book, file, ties))
+    Ok(post_all(&mut book, &whole))
 }

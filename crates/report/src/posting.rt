@@ -5,7 +5,7 @@ ghost use Rattle.book.specs.Posting.{Posted, PostedTo};
 ghost use Rattle.book.specs.Standing.{ledger};
 ghost use Rattle.report.specs.Reported.{Digits, Reported};
 ghost use Rattle.tie_file.specs.Bodies.{equations};
-ghost use Rattle.tie_file.specs.Table.{WellFormed, entries};
+ghost use Rattle.tie_file.specs.Table.{entries};
 ghost use Rattle.ties.specs.Equations.{Count, nth_equation};
 ghost use Rattle.ties.specs.Layouts.{shape};
 
@@ -14,16 +14,14 @@ use crate::settling::settled_digits;
 use book::fault::PostFault;
 use book::{Book, Open};
 use scale::Scale;
-use tie_file::parts;
-use ties::tie::Term;
+use tie_file::file::TieFile;
 
 // Posts the ties of the file in order to an empty book until one is refused.
-pub fn post_all<S: Scale>(book: &mut Book<S, Open>, file: &[u8], ties: usize) -> Report
-    requires formed { WellFormed file.now }
-    requires all { ties + 1 ≡ entries file.now }
-    requires nothing { ledger book.old.table ≡ [] }
+pub fn post_all<S: Scale>(book: &mut Book<S, Open>, file: &TieFile) -> Report
+    requires { ledger book.old.table ≡ [] }
     ensures { let b = book.old in Reported (S.Scale.meaning b.scale) (shape b.layout) (equations file.now) result }
 {
+    let ties = file.ties();
     for i in 0..ties {
         if let Err(fault) = post_nth(book, file, i) {
             return sum_up(book, i, Some(Stop { tie: i, fault }));
@@ -49,25 +47,16 @@ fn sum_up<S: Scale>(book: &Book<S, Open>, standing: usize, stopped: Option<Stop>
 }
 
 // Posts tie `i` of the file.
-fn post_nth<S: Scale>(book: &mut Book<S, Open>, file: &[u8], i: usize) -> Result<u8, PostFault>
-    requires formed { WellFormed file.now }
-    requires within { i + 1 < entries file.now }
+fn post_nth<S: Scale>(book: &mut Book<S, Open>, file: &TieFile, i: usize) -> Result<u8, PostFault>
+    requires { i + 1 < entries file.now }
     ensures answer { PostedTo S.Scale.meaning book.old (nth_equation (equations file.now) i) (replicate 64 0) result }
     ensures book { Posted S.Scale.meaning book.old (nth_equation (equations file.now) i) result book.new }
 {
-    let mut room = [Term {
-        head: 0,
-        counter: 0,
-        factor: 0,
-    }; 32];
-    let Some(read) = parts::tie_in(file, i, &mut room) else {
-        return unreachable();
-    };
-    let Some(tie) = read.tie(&room) else {
+    let Some(body) = file.tie(i) else {
         return unreachable();
     };
     let mut multipliers = [0; 64];
-    book.post(&tie, &mut multipliers)
+    book.post(&body.tie(), &mut multipliers)
 }
 
 // How many digits the standing ties leave free.

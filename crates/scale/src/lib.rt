@@ -5,7 +5,7 @@
 ghost use Rattle.std.specs.Prelude.{◌≡◌, Decides};
 ghost use Rattle.scale.specs.Meaning.{Code, Divided, Laws, Meaning, power, reading};
 
-// A scale's kind, digit base and length in digits.
+// A scale's kind, digit base and length in digits. The kind is a plain number: a crate may have scales of its own kinds.
 #[derive(Clone, Copy, PartialEq, Eq, Debug)]
 pub struct Mark {
     pub kind: u8,

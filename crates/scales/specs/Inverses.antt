@@ -1,8 +1,8 @@
 -- Inverses modulo a power of the base: a digit's, by a table, and a number's, by Newton's doubling.
 use Rattle.std.specs.Prelude.{◌≡◌, ℕ, zero, suc, ◌+◌, ◌-◌, ◌*◌, ◌/◌, ◌%◌, ◌^◌, ◌<◌, ◌≤◌, min, Bool, true, false, ◌&&◌, T, ◌==◌}
-use Rattle.std.proofs.Common.{sym, ap, ap₂, ◌∙◌, subst, mul_assoc, mul_comm, one-mul, mul-zero, div-add-mod', mod-lt, mod-eq_of_lt, pow-suc, eq-or-lt_of_le, mul-le-mul, lt_of_le_of_lt, le_trans, inl, inr, arith, eqb→eq, lit<, pow-add}
-use Rattle.std.proofs.Math.Nat.{mul-mul-mul_comm, zero-mod, mod-eq-zero_of_dvd, pow-zero, pow-le-pow_right, min-eq_left, min-eq_right, two-pow-succ, one-le-pow, pow-le-pow_left}
-use Rattle.std.proofs.lemmas.Nat.{mul-mod_first, mul-mod_second}
+use Rattle.std.proofs.Common.{sym, ap, ap₂, ◌∙◌, subst, subst₂, mul_assoc, mul_comm, one-mul, mul-zero, div-add-mod', mod-lt, mod-eq_of_lt, pow-suc, eq-or-lt_of_le, mul-le-mul, inl, inr, arith, eqb→eq, pow-add}
+use Rattle.std.proofs.Math.Nat.{mul-mul-mul_comm, zero-mod, mod-eq-zero_of_dvd, pow-zero, min-eq_left, min-eq_right, two-pow-succ, one-le-pow}
+use Rattle.std.proofs.lemmas.Nat.{mul-mod, mul-mod_first, mul-mod_second}
 use Rattle.scales.specs.Remainders.{of_multiple, power_divides, power_mod, lower_power, above_exponent, newton}
 
 -- every digit of base q but 0 has its power q - 2 for an inverse
@@ -36,13 +36,6 @@ by_table q t d h l = look_up q (q - 1) t d h (omega arith)
 pub last_inverse : (q w : ℕ) → 2 ≤ q → Inverted q → 0 < w % q → (w * (w % q) ^ (q - 2)) % q ≡ 1
 last_inverse q w hq inverted h =
     sym (mul-mod_first w ((w % q) ^ (q - 2)) q) ∙ inverted (w % q) h (mod-lt w (omega arith))
-
--- that power is small in a small base
-pub small_power : (d q : ℕ) → d < q → q ≤ 7 → d ^ (q - 2) < 2 ^ 31
-small_power d q h l =
-    lt_of_le_of_lt
-    (le_trans (pow-le-pow_left {n = d} {m = 7} (omega arith) (q - 2)) (pow-le-pow_right {n = 7} (omega arith) {i = q - 2} {j = 5} (omega arith)))
-    (lit< tt)
 
 -- and a product is no multiple of q unless a factor is
 pub prime_like : (q : ℕ) → 2 ≤ q → Inverted q → (x y : ℕ) → 0 < x % q → (x * y) % q ≡ 0 → y % q ≡ 0
@@ -111,28 +104,25 @@ pub doubled :
 doubled q e j w x hq he hj inv =
     doubles q e (min j e) (min (j + j) e) w x hq (omega arith) (omega arith) (omega arith) (omega arith) inv
 
--- the same step, as code takes it: each number is known by an equation
+-- the same step, as code takes it
 pub turned :
-    (q e j w x : ℕ) {u v near t r s y : ℕ}
+    (q e j w x : ℕ) {size near y : ℕ}
     → 2 ≤ q
     → 1 ≤ e
     → 1 ≤ j
-    → u ≡ w
-    → v ≡ x
-    → near ≡ (u * v) % q ^ e
-    → t ≡ near
-    → r ≡ x
-    → s ≡ q ^ e
-    → y ≡ (r * (s + 2 - t)) % q ^ e
+    → size ≡ q ^ e
+    → near ≡ ((w % q ^ e) * (x % q ^ e)) % q ^ e
+    → y ≡ ((x % q ^ e) * ((size + 2 - near) % q ^ e)) % q ^ e
     → Inverse q (min j e) w x
     → Inverse q (min (j * 2) e) w y
-turned q e j w x {u} {v} {near} {t} {r} {s} {y} hq he hj eu ev en et er es ey inv =
-    let product : t ≡ (w * x) % q ^ e = et ∙ en ∙ ap₂ (λ (a b : ℕ). (a * b) % q ^ e) eu ev in
-    let is : y ≡ stepped (q ^ e) w x =
-    ey ∙ ap₂ (λ (a b : ℕ). (a * (b + 2 - t)) % q ^ e) er es ∙ ap (λ (k : ℕ). (x * (q ^ e + 2 - k)) % q ^ e) product in
+turned q e j w x {size} {near} {y} hq he hj es en ey inv =
+    let n : ℕ = q ^ e in
+    let is : stepped n w x ≡ y =
+    sym
+    (ey ∙ sym (mul-mod x (size + 2 - near) n)
+    ∙ ap₂ (λ (a b : ℕ). (x * (a + 2 - b)) % n) es (en ∙ sym (mul-mod w x n))) in
     let two : j + j ≡ j * 2 = omega arith in
-    subst (λ (m : ℕ). Inverse q (min m e) w y) two
-    (subst (λ (z : ℕ). Inverse q (min (j + j) e) w z) (sym is) (doubled q e j w x hq he hj inv))
+    subst₂ (λ (k z : ℕ). Inverse q (min k e) w z) two is (doubled q e j w x hq he hj inv)
 
 -- an inverse of the last digit
 pub begun : (q e w x : ℕ) → 1 ≤ e → 2 ≤ q → (w * x) % q ≡ 1 → Inverse q (min 1 e) w x

@@ -8,6 +8,7 @@ use Rattle.scales.specs.declared.kind.Kind.TheVariants.{Binary, Prime, Disc}
 use Rattle.scales.specs.Counting.{counting}
 use Rattle.scales.specs.Numbering.{renumbered, gray, ungray}
 
+-- the number that a mark has for each kind
 abbrev pub number : Kind → ℕ
 number Binary = 1
 number Prime = 2
@@ -43,6 +44,10 @@ Numbers k = (1 ≤ k.length) × (k.length ≤ longest k.kind k.base)
 -- the scale that a mark names: a disc counts under Gray codes, the others plainly
 abbrev pub named : Mark → Meaning
 named k = cond (k.kind == number Disc) (renumbered gray (ungray k.length) (counting k)) (counting k)
+
+-- what a constructor answers: the scale that the mark names, and a fault exactly where its numbers are wrong
+abbrev pub Makes : {S : Type 0} → (S → Meaning) → Mark → Result S ScaleFault → Type 0
+Makes meaning k r = MatchResult r (λ s. Numbers k × (meaning s ≡ named k)) (λ _. Numbers k → ⊥)
 
 -- the marks of each kind
 abbrev pub binary_mark : ℕ → Mark

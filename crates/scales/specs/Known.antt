@@ -4,8 +4,9 @@ use Rattle.std.proofs.Common.{sym, ◌∙◌, subst, le_trans, arith, eqb→eq, 
 use Rattle.std.proofs.Math.Nat.{pow-le-pow_right}
 use Rattle.scale.specs.declared.Mark.{Mark}
 use Rattle.scale.specs.Meaning.{Laws}
+use Rattle.scales.specs.declared.kind.Kind.TheVariants.{Disc}
 use Rattle.scales.specs.Counting.{counting}
-use Rattle.scales.specs.Kinds.{Numbers, rows, longest_in, named}
+use Rattle.scales.specs.Kinds.{Numbers, number, rows, longest_in, named}
 use Rattle.scales.specs.Numbering.{gray, ungray, renumbered}
 use Rattle.scales.specs.GrayCode.{gray_below, ungray_below, gray_ungray, ungray_gray}
 use Rattle.scales.specs.Inverses.{Inverted, both, tabled, by_table}
@@ -58,9 +59,9 @@ found passes (row ∷ others) kind base length t h l =
 fit : ℕ × ℕ × ℕ → Bool
 fit row = nat_le row.0 255 && (nat_le 2 row.1 && (nat_le row.1 7 && (tabled row.1 (row.1 - 1) && nat_le (row.1 ^ row.2) (2 ^ 31))))
 
--- and kind 3 has base 2
+-- and a disc has base 2
 gray_two : ℕ × ℕ × ℕ → Bool
-gray_two row = not (row.0 == 3) || row.1 == 2
+gray_two row = not (row.0 == number Disc) || row.1 == 2
 
 pub fits : (k : Mark) → Numbers k → Fit k × (k.base ≤ 7)
 unfolding all fit
@@ -92,15 +93,15 @@ fits k numbers =
       at.1,
     )
 
-gray_base : (k : Mark) → Numbers k → k.kind ≡ 3 → k.base ≡ 2
+gray_base : (k : Mark) → Numbers k → k.kind ≡ number Disc → k.base ≡ 2
 unfolding all gray_two
 gray_base k numbers three =
     let f = found gray_two rows k.kind k.base k.length tt numbers.0 numbers.1 in
     f.base_is ∙ two f.row (sym f.kind_is ∙ three) f.passed
   where
-    two : (row : ℕ × ℕ × ℕ) → row.0 ≡ 3 → T (gray_two row) → row.1 ≡ 2
+    two : (row : ℕ × ℕ × ℕ) → row.0 ≡ number Disc → T (gray_two row) → row.1 ≡ 2
     two row e t =
-        eqb→eq row.1 2 (subst (λ (x : ℕ). T (not (x == 3) || row.1 == 2)) e t)
+        eqb→eq row.1 2 (subst (λ (x : ℕ). T (not (x == number Disc) || row.1 == 2)) e t)
 
 pub gray_numbering : (kind e : ℕ) → Numbering gray (ungray e) (counting (record { kind = kind; base = 2; length = e }))
 gray_numbering kind e =
@@ -113,12 +114,12 @@ gray_numbering kind e =
     }
 
 pub named_laws : (k : Mark) → Numbers k → Laws (named k)
-named_laws k numbers = go (k.kind == 3) refl
+named_laws k numbers = go (k.kind == number Disc) refl
   where
-    go : (t : Bool) → (k.kind == 3) ≡ t → Laws (cond t (renumbered gray (ungray k.length) (counting k)) (counting k))
+    go : (t : Bool) → (k.kind == number Disc) ≡ t → Laws (cond t (renumbered gray (ungray k.length) (counting k)) (counting k))
     go false _ = counting_laws k (fits k numbers).0
     go true is =
-        let two : k.base ≡ 2 = gray_base k numbers (eqb-true k.kind 3 is) in
+        let two : k.base ≡ 2 = gray_base k numbers (eqb-true k.kind (number Disc) is) in
         renumbered_laws gray (ungray k.length) (counting k)
         (subst (λ (q : ℕ). Numbering gray (ungray k.length) (counting (record { kind = k.kind; base = q; length = k.length }))) (sym two) (gray_numbering k.kind k.length))
         (counting_laws k (fits k numbers).0)

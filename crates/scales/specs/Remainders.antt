@@ -1,7 +1,7 @@
 -- Remainders: what a sum and a product keep, and Newton's step.
 use Rattle.std.specs.Prelude.{◌≡◌, ℕ, zero, suc, ◌+◌, ◌-◌, ◌*◌, ◌/◌, ◌%◌, ◌^◌, ◌<◌, ◌≤◌}
 use Rattle.std.specs.Int.{◌∣◌}
-use Rattle.std.proofs.Common.{sym, ap, ◌∙◌, subst, add_comm, add-zero, mul-add, mul_assoc, mul_comm, mul-suc, suc-mul, mul-zero, div-add-mod', mod-lt, pow-suc, add-sub_of_le, lt_of_lt_of_le, arith, pow-add}
+use Rattle.std.proofs.Common.{sym, ap, ◌∙◌, subst, add_comm, add-zero, mul-add, mul_comm, mul-suc, suc-mul, mul-zero, mod-lt, pow-suc, add-sub_of_le, lt_of_lt_of_le, arith, pow-add}
 use Rattle.std.proofs.lemmas.Nat.{mul-mod_second}
 use Rattle.std.proofs.Math.Nat.{add-mod-mod, mul-div_cancel', dvd_of_mod-eq-zero, zero-mod, mul-mod_right, mod-mod_of_dvd, dvd-mul_right, le_dest}
 

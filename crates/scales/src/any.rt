@@ -1,5 +1,4 @@
-ghost use Rattle.std.specs.Prelude.{◌≡◌, MatchResult};
-ghost use Rattle.scales.specs.Kinds.{Numbers, named, binary_mark, prime_mark, disc_mark};
+ghost use Rattle.scales.specs.Kinds.{Makes, binary_mark, prime_mark, disc_mark};
 ghost use Rattle.scales.specs.Made.{any_scale};
 ghost use Rattle.scales.specs.declared.any.AnyScale.TheVariants.{Binary, Prime, Disc};
 ghost use Rattle.scales.specs.Known.{named_laws};
@@ -22,7 +21,7 @@ pub enum AnyScale {
 impl AnyScale {
     // The scale that a mark names.
     pub fn from_mark(mark: Mark) -> Result<AnyScale, ScaleFault>
-        ensures { MatchResult result (λ s. Numbers mark × (any_scale s ≡ named mark)) (λ _. Numbers mark → ⊥) }
+        ensures { Makes any_scale mark result }
     {
         match (Kind::try_from(mark.kind)?, mark.base) {
             (Kind::Binary, 2) => Binary::new(mark.length).map(AnyScale::Binary),

@@ -20,13 +20,12 @@ pub struct Bits {
 }
 
 impl Counting<Bits> {
-    ghost use Rattle.std.specs.Prelude.{MatchResult};
-    ghost use Rattle.scales.specs.Counting.{counting};
+    ghost use Rattle.scales.specs.Kinds.{Makes};
     ghost use Rattle.scales.specs.Made.{binary};
 
     // Lengths are 1 to 31.
     pub fn new(length: u8) -> Result<Binary, ScaleFault>
-        ensures { MatchResult result (λ s. Numbers (binary_mark length) × (binary s ≡ counting (binary_mark length))) (λ _. Numbers (binary_mark length) → ⊥) }
+        ensures { Makes binary (binary_mark length) result }
     {
         if length == 0 || length > 31 {
             return Err(ScaleFault::Numbers);

@@ -24,14 +24,12 @@ impl<D: Digits> Counting<D> {
         ensures { let m = counting (D.counts self.now.digits) in (unit * result) % size m ≡ 1 }
     {
         let length = u32::from(self.digits.mark().length);
-        let size = u64::from(self.digits.size());
+        let size = self.digits.size();
         let mut inverse = self.digits.digit_inverse(unit);
         let mut exact = 1;
         while exact < length {
-            let near = self.digits.remainder(u64::from(unit) * u64::from(inverse));
-            inverse = self
-                .digits
-                .remainder(u64::from(inverse) * (size + 2 - u64::from(near)));
+            let near = self.product(unit, inverse);
+            inverse = self.product(inverse, size + 2 - near);
             exact *= 2;
         }
         inverse

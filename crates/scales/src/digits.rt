@@ -35,7 +35,7 @@ pub trait Digits {
 
     fn digit_inverse(&self, unit: u32) -> u32
         requires { 0 < unit % base (counting (counts self.now)) }
-        ensures { ((unit * result) % base (counting (counts self.now)) ≡ 1) × (result < 2 ^ 31) };
+        ensures { (unit * result) % base (counting (counts self.now)) ≡ 1 };
 
     ghost lawful: { (s : Self) → Laws (counting (counts s)) };
 }

@@ -1,5 +1,5 @@
-ghost use Rattle.std.specs.Prelude.{◌≡◌, ◌%◌, ◌^◌, MatchResult};
-ghost use Rattle.scales.specs.Kinds.{Numbers, disc_mark, named};
+ghost use Rattle.std.specs.Prelude.{◌≡◌, ◌%◌, ◌^◌};
+ghost use Rattle.scales.specs.Kinds.{Makes, disc_mark};
 ghost use Rattle.scales.specs.Made.{disc};
 ghost use Rattle.scales.specs.Numbering.{gray, ungray};
 ghost use Rattle.scales.specs.Known.{named_laws};
@@ -18,7 +18,7 @@ pub struct Disc {
 impl Disc {
     // Lengths are 1 to 31.
     pub fn new(length: u8) -> Result<Disc, ScaleFault>
-        ensures { MatchResult result (λ s. Numbers (disc_mark length) × (disc s ≡ named (disc_mark length))) (λ _. Numbers (disc_mark length) → ⊥) }
+        ensures { Makes disc (disc_mark length) result }
     {
         Ok(Disc {
             positions: Binary::new(length)?,

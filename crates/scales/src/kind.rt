@@ -3,7 +3,7 @@ ghost use Rattle.scales.specs.Kinds.{Decodes, number};
 
 use crate::fault::ScaleFault;
 
-// The kinds of scale that a mark can name here. A scale of another crate may have a kind of its own.
+// The kinds of this crate's scales, with the numbers that marks have for them.
 #[derive(Clone, Copy, PartialEq, Eq, Debug)]
 pub enum Kind {
     Binary = 1,

@@ -22,13 +22,12 @@ pub struct OddBase {
 }
 
 impl Counting<OddBase> {
-    ghost use Rattle.std.specs.Prelude.{MatchResult};
-    ghost use Rattle.scales.specs.Counting.{counting};
+    ghost use Rattle.scales.specs.Kinds.{Makes};
     ghost use Rattle.scales.specs.Made.{prime};
 
     // Base 3 has lengths 1 to 19, base 5 has 1 to 13, and base 7 has 1 to 11.
     pub fn new(base: u8, length: u8) -> Result<Prime, ScaleFault>
-        ensures { MatchResult result (λ s. Numbers (prime_mark base length) × (prime s ≡ counting (prime_mark base length))) (λ _. Numbers (prime_mark base length) → ⊥) }
+        ensures { Makes prime (prime_mark base length) result }
     {
         if length == 0 || length > greatest_length(base) {
             return Err(ScaleFault::Numbers);

@@ -1,15 +1,10 @@
 -- The steps of the checks on a file.
-use Rattle.std.proofs.Common.{◌≡◌, ℕ, zero, suc, ◌+◌, ◌*◌, ◌<◌, ◌≤◌, Bool, true, false, eqb, List, length, get_or, is_some, Some, None, MatchBool, Option, sym, refl, ap, ◌∙◌, add-one, zero-add, subst, arith, Bor, below_more, eqb-true, MatchOption}
+use Rattle.std.proofs.Common.{◌≡◌, ℕ, zero, suc, ◌<◌, ◌≤◌, Bool, true, false, eqb, List, length, MatchBool, sym, refl, ap, ◌∙◌, zero-add, subst, arith, eqb-true}
 use borrow.Author.Tests.{eqb-false}
 use Rattle.std.specs.List.{AllWithin, HoldsAt, range_with_len}
 use Rattle.std.proofs.lemmas.List.FromFn.{get_or-range_with_len, length-range_with_len}
-use Rattle.tie_file.specs.declared.entry.Entry.TheVariants.{Layout, Tie}
-use Rattle.tie_file.specs.Table.{HasEntries, HasBodies, TieLength, byte, entries, kind_at, start_at, extent_at, end_before}
-use Rattle.tie_file.specs.Steps.{BodyFits, InPlace, LayoutLength}
-use Rattle.tie_file.specs.declared.entry.Line.{Line}
-use Rattle.tie_file.specs.Reading.{HasEntry, IsEntry, kind_number}
-use Rattle.tie_file.proofs.Bytes.{part_byte}
-use Rattle.tie_file.proofs.WellFormed.{body_length}
+use Rattle.tie_file.specs.Table.{HasEntries, HasBodies, entries, kind_at, start_at, end_before}
+use Rattle.tie_file.specs.Steps.{BodyFits}
 
 -- the kind is that of the entry's place, and the body starts where the part before ends
 abbrev pub Follows : List ℕ → ℕ → Type 0
@@ -29,16 +24,7 @@ none : (i : ℕ) → (1 ≤ i → ⊥) → i ≡ 0
 none zero n = refl
 none (suc i) n = absurd (n (omega arith))
 
--- every entry follows the one before: one more, and then all
-pub entry_more :
-    (f : List ℕ) (i end : ℕ) (l : Line) → end ≡ end_before f i → kind_at f i ≡ kind_number l.kind → l.start ≡ start_at f i
-    → l.extent ≡ extent_at f i → InPlace i (kind_number l.kind) → l.start ≡ end → ((k : ℕ) → k < i → Follows f k)
-    → (l.start + l.extent ≡ end_before f (i + 1)) × ((k : ℕ) → k < i + 1 → Follows f k)
-entry_more f i end l e k s x place starts before = (
-  rw add-one (omega arith),
-  below_more (Follows f) i before ((λ z. k ∙ place.0 z), (λ o. k ∙ place.1 o), omega arith),
-)
-
+-- every entry follows the one before
 pub entries_all :
     (f : List ℕ) (n end : ℕ) → n ≡ entries f → 1 ≤ n → end ≡ end_before f n → ((k : ℕ) → k < n → Follows f k)
     → MatchBool (eqb end (length f)) (HasEntries f) (HasEntries f → ⊥)
@@ -58,61 +44,6 @@ entries_all f n end all some e follow = retold (eqb end (length f)) (end ≡ len
 
     from : HasEntries f → end ≡ length f
     from h = last ∙ h.ends
-
--- whether a layout's body fits
-pub layout_fits_lem :
-    (f : List ℕ) → HasEntries f → (i : ℕ) → i < entries f → (b : Bor (List ℕ)) (r : Bool)
-    → HasEntry f i → IsEntry f i (Layout b)
-    → MatchBool r (LayoutLength b.now) (LayoutLength b.now → ⊥) → MatchBool r (BodyFits f i) (BodyFits f i → ⊥)
-layout_fits_lem f e i h b r there is w = retold r (LayoutLength b.now) (BodyFits f i) to from w
-  where
-    size : length b.now ≡ extent_at f i
-    size = ap length is.1 ∙ body_length f i there
-
-    fifth : 5 ≤ extent_at f i → get_or b.now 4 0 ≡ byte f (start_at f i + 4)
-    fifth l = part_byte f b.now (start_at f i) (extent_at f i) 4 (start_at f i + 4) is.1 l refl
-
-    first : 1 ≤ i → ⊥
-    first l = omega (arith, e.ties i l h, is.0)
-
-    to : LayoutLength b.now → BodyFits f i
-    to l =
-        let least : 5 ≤ extent_at f i = omega (arith, size, l.0) in
-        ((λ z. (least, omega (arith, size, l.1, fifth least))), (λ o. absurd (first o)))
-
-    from : BodyFits f i → LayoutLength b.now
-    from l =
-        let fits = l.0 (none i first) in
-        (omega (arith, size, fits.0), omega (arith, size, fits.1, fifth fits.0))
-
--- whether a tie's body fits
-counted :
-    (n : ℕ) (o : Option ℕ) → MatchOption o (TieLength n → ⊥) (λ t. (t ≤ 32) × (n ≡ 5 + 6 * t))
-    → MatchBool (is_some o) (TieLength n) (TieLength n → ⊥)
-counted n None w = w
-counted n (Some t) w = (t, w.0, w.1)
-
-pub tie_fits :
-    (f : List ℕ) → HasEntries f → (i : ℕ) → (b : Bor (List ℕ)) (o : Option ℕ) → HasEntry f i → IsEntry f i (Tie b)
-    → MatchOption o (TieLength (length b.now) → ⊥) (λ t. (t ≤ 32) × (length b.now ≡ 5 + 6 * t))
-    → MatchBool (is_some o) (BodyFits f i) (BodyFits f i → ⊥)
-tie_fits f e i b o there is w =
-    retold (is_some o) (TieLength (length b.now)) (BodyFits f i) to from (counted (length b.now) o w)
-  where
-    size : length b.now ≡ extent_at f i
-    size = ap length is.1 ∙ body_length f i there
-
-    other : i ≡ 0 → ⊥
-    other z = omega (arith, ap (kind_at f) z, e.layout, is.0)
-
-    to : TieLength (length b.now) → BodyFits f i
-    to t = ((λ z. absurd (other z)), (λ o. (t.0, t.1, sym size ∙ t.2)))
-
-    from : BodyFits f i → TieLength (length b.now)
-    from l =
-        let some : 1 ≤ i = omega (arith, other) in
-        let t = l.1 some in
-        (t.0, t.1, size ∙ t.2)
 
 -- every body fits
 bodies_all :

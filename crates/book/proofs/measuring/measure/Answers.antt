@@ -20,10 +20,10 @@ slice_bounds-try_from-end g c =
     let s = shape c.args.tie.now.layout.now in
     let is = c.places-n.ensures.0 in
     let long : length c.args.rows.now ≡ n + n * n = c.requires.size ∙ ap (λ k. k + k * k) (sym is) in
-    let below : c.lowest-number.result < n =
-    omega (arith, c.lowest-number.ensures.0, ap length c.deref.ensures.0, c.multiply_out-products.ensures.count)
+    let below : c.scan-number.result.0 < n =
+    omega (arith, c.scan-number.ensures.lowest.0, ap length c.deref.ensures.0, c.multiply_out-products.ensures.count)
     in
-    omega (arith, row_inside n c.lowest-number.result below)
+    omega (arith, row_inside n c.scan-number.result.0 below)
 
 pub returns : goal.returns
 returns g c =
@@ -33,8 +33,8 @@ returns g c =
     let e = equation c.args.tie.now.tie in
     let rows = c.args.rows.now in
     let ds = c.multiply_out-products.result.items in
-    let qs = c.divide.result.items in
-    let p = c.lowest-number.result in
+    let qs = c.complete.result.items in
+    let p = c.scan-number.result.0 in
     let raise = c.raise-raise.result in
     let raise_is : raise ≡ power m (digits m - depth s e) = c.raise-raise.ensures in
     let raise_code : Code m raise = subst (Code m) (sym raise_is) (power_code m l (digits m - depth s e)) in
@@ -46,9 +46,9 @@ returns g c =
     let away = negative_is m l c.product-reached.result c.negative.result reached.0 c.negative.ensures in
     let sum = sum_is m l c.product.result c.negative.result c.sum.result right.0 away.0 c.sum.ensures in
     let at_point = total_cut m s e.terms rows 0 0 _ c.args.tie.now.sound.exist refl c.places-n.ensures.0 in
-    let chosen = rw c.deref.ensures.0 at c.lowest-number.ensures in
-    let divided = rw c.deref-3.ensures.0 at c.divide.ensures in
-    let number : p < places s = omega (arith, chosen.0, c.multiply_out-products.ensures.count) in
+    let chosen = rw c.deref.ensures.0 at c.scan-number.ensures in
+    let divided = rw c.deref-3.ensures.0 at c.complete.ensures in
+    let number : p < places s = omega (arith, chosen.lowest.0, c.multiply_out-products.ensures.count) in
     let divisor_is = ap (λ xs. get_or xs p 0) c.deref-2.ensures.0 in
     let row = (MatchResult-at_ok _ _ _ c.unwrap.ensures c.try_from.ensures).0 in
     let n_is = c.places-n.ensures.0 in

@@ -1,4 +1,4 @@
-use Rattle.std.proofs.Common.{◌≡◌, ℕ, zero, suc, ◌+◌, ◌*◌, ◌/◌, ◌^◌, ◌<◌, [], ◌∷◌, get_or, bit_xor, sym, refl, ap, ap₂, ◌∙◌, pow-suc, add-one, arith}
+use Rattle.std.proofs.Common.{◌≡◌, ℕ, zero, suc, ◌+◌, ◌/◌, ◌^◌, ◌<◌, [], ◌∷◌, get_or, bit_xor, sym, refl, ap, ap₂, ◌∙◌, pow-suc, add-one, arith}
 use Rattle.scales.specs.Numbering.{ungray}
 use Rattle.scales.specs.GrayCode.{ungray_one, ungray_double}
 use Rattle.scales.proofs.disc.position_of_gray.Goals as goal
@@ -22,8 +22,3 @@ loop-digits-preserved c =
     ap₂ (λ (p k : ℕ). bit_xor p (p / 2 ^ k)) c.loop-digits.invariant (digits_at i c.loop-digits-test.true)
     ∙ ungray_double (2 ^ i) c.args.code
     ∙ ap (λ (k : ℕ). ungray k c.args.code) double
-
-pub returns : goal.returns
-returns c =
-    let all : c.loop-digits.digits-index ≡ 5 = omega arith in
-    c.loop-digits.invariant ∙ ap (λ (i : ℕ). ungray (2 ^ i) c.args.code) all

@@ -1,6 +1,6 @@
 use Rattle.std.proofs.Common.{◌≡◌, ℕ, ◌<◌, length, get_or}
 use Rattle.scale.specs.Meaning.{Quotient}
-use Rattle.book.proofs.dividing.divide.Given as goal
+use Rattle.book.proofs.dividing.complete.Given as goal
 
 abbrev pub invariant-loop-product : goal.invariant-loop-product
 invariant-loop-product g l =
