@@ -1,4 +1,4 @@
-use Rattle.std.proofs.Common.{◌≡◌, ◌<◌, length}
+use Rattle.std.proofs.Common.{◌<◌, length}
 use Rattle.book.specs.Dividing.{Scanned}
 use Rattle.book.proofs.dividing.scan.Given as goal
 
