@@ -67,8 +67,7 @@ pub fn refute<S: Scale>(
     let mut row = [0; 32];
     add_terms(tie, scale.product(lead, tie.raise()), &mut row);
     multipliers[count] = lead;
-    for k in (0..count).rev() {
-        let standing = &table.standing[k];
+    for (k, standing) in table.standing.iter().enumerate().rev() {
         let tie = SoundTie {
             scale,
             layout,

@@ -83,8 +83,7 @@ impl Pivot {
 
 // The negatives of codes.
 fn negatives<S: Scale>(scale: &S, numbers: &[u32]) -> ArrayVec<u32, 32>
-    requires few { length numbers.now ≤ 32 }
-    requires codes { Codes (S.Scale.meaning scale.now) numbers.now }
+    requires { length numbers.now ≤ 32 }
     ensures { Negatives (S.Scale.meaning scale.now) numbers.now result.items }
 {
     let mut negatives = ArrayVec::new();

@@ -1,21 +1,9 @@
-use Rattle.std.proofs.Common.{◌≡◌, ℕ, ◌+◌, ◌*◌, List, length, get_or, replicate, vec_items, sum, sym, ap, ◌∙◌, subst}
+use Rattle.std.proofs.Common.{◌≡◌, ℕ, ◌+◌, ◌*◌, List, length, sum, sym, ◌∙◌, subst}
 use Rattle.std.proofs.lemmas.List.{with_items_is}
 use Rattle.scale.specs.Meaning.{Meaning}
 use Rattle.ties.specs.Layouts.{Shape, places, shape}
-use Rattle.multipliers.proofs.Concluding.{zeros_read}
 use Rattle.book.specs.Standing.{Fresh, Units}
 use Rattle.book.proofs.empty.empty_table.Goals as goal
-
-pub set_units-requires : goal.set_units-requires
-set_units-requires g c =
-    let n = c.places-n.result in
-    let zeros : vec_items c.in_ok-rows.rows ≡ replicate (n + n * n) 0 = c.in_ok-rows.ensures.items_if_clones_equal (λ y h. h) in
-    let read = c.deref_mut.ensures.value ∙ zeros in
-    record {
-      few = c.places-n.ensures.1;
-      size = c.deref_mut.ensures.len ∙ c.in_ok-rows.ensures.len;
-      zeros = λ i. ap (λ xs. get_or xs i 0) read ∙ zeros_read (n + n * n) i;
-    }
 
 -- the unit rows are those of an empty book
 fresh : (m : Meaning) (s : Shape) (n f : ℕ) (xs : List ℕ) → n ≡ places s → length xs ≡ n + n * n → f ≡ s.heads * sum s.widths → Units m n n xs → Fresh m s xs f

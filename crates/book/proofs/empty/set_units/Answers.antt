@@ -1,28 +1,11 @@
 use Rattle.std.proofs.Common.{◌≡◌, ℕ, ◌+◌, ◌*◌, ◌<◌, cond, eqb, List, length, get_or, set, sym, ap, ◌∙◌, subst, inl, inr, arith, get_or-set_other, get_or-set_same, eq-eqb, ne_eqb}
 use native.Mathlib.Decide.{ℕ_discrete}
 use Rattle.scale.specs.Meaning.{Code, Meaning}
-use Rattle.scale.proofs.Codes.{zero_code}
 use Rattle.multipliers.proofs.Growing.{codes_set}
 use Rattle.book.specs.Turning.{generator}
 use Rattle.book.specs.Standing.{Units}
 use Rattle.book.proofs.Spots.{row_inside, spot_apart}
 use Rattle.book.proofs.empty.set_units.Goals as goal
-
-pub loop-i-init : goal.loop-i-init
-loop-i-init g c =
-    let m = g.S.Scale.meaning c.args.scale.now in
-    let l = g.met.S.Scale.lawful c.args.scale.now in
-    record {
-      codes = λ i. subst (Code m) (sym (c.requires.zeros i)) (zero_code m l);
-      units = λ i j h k. absurd (omega arith);
-      ahead = λ i j h w k. c.requires.zeros (c.args.n + i * c.args.n + j);
-      origin = λ j h. c.requires.zeros j;
-    }
-
-pub bounds-rows-n : goal.bounds-rows-n
-bounds-rows-n g c =
-    let inside = row_inside c.args.n c.loop-i.i c.loop-i-test.true in
-    omega (arith, c.loop-i.auto.rows, c.requires.size)
 
 -- one more unit row
 units_more :

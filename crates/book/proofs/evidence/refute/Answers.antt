@@ -1,7 +1,9 @@
-use Rattle.std.proofs.Common.{◌≡◌, ℕ, suc, ◌-◌, ◌<◌, ◌≤◌, List, [], ◌∷◌, ◌++◌, map, length, get_or, set, replicate, vec_items, sym, refl, ap, ◌∙◌, subst, ap₂, arith, length-append, length-set, get_or-set_other, get_or-set_same}
+use Rattle.std.proofs.Common.{◌≡◌, ℕ, suc, ◌-◌, ◌<◌, ◌≤◌, List, [], ◌∷◌, ◌++◌, map, length, get_or, set, take, replicate, vec_items, sym, refl, ap, ◌∙◌, subst, ap₂, add-one, arith, length-append, length-set, get_or-set_other, get_or-set_same}
 use lib.ListN.{length-map}
 use Rattle.std.proofs.lemmas.List.Elements.{All-push}
-use Rattle.std.proofs.lemmas.List.{get_or_default}
+use Rattle.std.proofs.lemmas.List.{get_or-take, get_or_push, length-take, length_push, take-take, take_all, take_at}
+use Rattle.std.specs.Iterator.Adapters.{enumerate_source, rev_source}
+use Rattle.std.specs.Slice.Iter.{iter_rest}
 use Rattle.scale.specs.Meaning.{Meaning, Laws, Code, digits, power}
 use Rattle.scale.proofs.Codes.{power_code}
 use Rattle.ties.specs.Equations.{Equation, depth, equation}
@@ -18,41 +20,54 @@ use Rattle.book.proofs.Filling.{product_is, zeros_codes}
 use Rattle.book.proofs.Refuting.{Refuting, done, has_quotient, settles, start, step}
 use Rattle.book.proofs.evidence.refute.Goals as goal
 
--- an element that is read is the one that stands there
-read_is : (ks : List Standing) (i : ℕ) (k : Standing) → i < length ks → k ≡ get_or ks i k → k ≡ nth_standing ks i
-read_is ks i k h e = e ∙ get_or_default ks i k nobody h
-
-module _ (m : Meaning) (l : Laws m) (s : Shape) (ks : List Standing) (e : Equation) (k : ℕ) (ys row : List ℕ) (t : Standing)
-    (some : 0 < k) (below : k - 1 < length ks) (read : t ≡ get_or ks (k - 1) t) (left : Refuting m l s ks e k ys row)
+-- the last of the standing ties that are left, and those before it
+module _ (m : Meaning) (l : Laws m) (s : Shape) (ks : List Standing) (e : Equation) (left rest : List Standing) (ys row : List ℕ) (t : Standing)
+    (taken : left ≡ take (length left) ks) (cut : left ≡ rest ++ (t ∷ [])) (so_far : Refuting m l s ks e (length left) ys row)
   where
-    -- one tie less
-    so_far : Refuting m l s ks e (suc (k - 1)) ys row
-    so_far = let less_one : k ≡ suc (k - 1) = omega arith in subst (λ (n : ℕ). Refuting m l s ks e n ys row) less_one left
+    abbrev k : ℕ
+    k = length rest
 
-    -- what is known of the tie that comes next
-    next_tie : Sound m s (equation_of t) × Formed m (places s) t.pivot × (m.level t.pivot.divisor ≤ m.level (against m s row t.pivot))
+    one_more : length left ≡ suc k
+    one_more = ap length cut ∙ length_push rest t ∙ add-one k
+
+    pub below : k < length ks
+    below = omega (arith, one_more, ap length taken, length-take (length left) ks)
+
+    read_is : t ≡ nth_standing ks k
+    read_is =
+        sym (get_or_push rest t nobody k refl)
+        ∙ ap (λ q. get_or q k nobody) (sym cut ∙ taken)
+        ∙ get_or-take (length left) ks k nobody (omega (arith, one_more))
+
+    here : Refuting m l s ks e (suc k) ys row
+    here = subst (λ (n : ℕ). Refuting m l s ks e n ys row) one_more so_far
+
+    -- what is known of it
+    pub next_tie : Sound m s (equation_of t) × Formed m (places s) t.pivot × (m.level t.pivot.divisor ≤ m.level (against m s row t.pivot))
     next_tie =
-        let known = settles m l s ks e (k - 1) ys row so_far in
+        let known = settles m l s ks e k ys row here in
         let P : Standing → Type 0 =
         λ t. Sound m s (equation_of t) × Formed m (places s) t.pivot × (m.level t.pivot.divisor ≤ m.level (against m s row t.pivot))
         in
-        subst P (sym (read_is ks (k - 1) t below read)) (known.0, known.1, has_quotient m l s ks e (k - 1) ys row so_far)
+        subst P (sym read_is) (known.0, known.1, has_quotient m l s ks e k ys row here)
 
     -- it is settled
-    next_settled :
+    pub next_settled :
         (new : List ℕ) (y : ℕ)
-        → k - 1 < length ys
+        → k < length ys
         → Settled m s (equation_of t) t.pivot row new y
-        → Refuting m l s ks e (k - 1) (set ys (k - 1) y) new
+        → (rest ≡ take k ks) × Refuting m l s ks e k (set ys k y) new
     next_settled new y room done =
-        let u = nth_standing ks (k - 1) in
+        let u = nth_standing ks k in
         let settled : Settled m s (equation_of u) u.pivot row new y =
-        subst (λ (t : Standing). Settled m s (equation_of t) t.pivot row new y) (read_is ks (k - 1) t below read) done
+        subst (λ (t : Standing). Settled m s (equation_of t) t.pivot row new y) read_is done
         in
-        let raise = power m (digits m - depth s (equation_of u)) in
-        subst (λ (y : ℕ). Refuting m l s ks e (k - 1) (set ys (k - 1) y) new) (sym settled.is)
-        (step m l s ks e (k - 1) ys row so_far settled.quotient (m.product y raise) new below room settled.divides
-        (ap (λ a. m.product a raise) settled.is) settled.codes settled.added)
+        let raise = power m (digits m - depth s (equation_of u)) in (
+          sym (take_at rest (t ∷ []) k refl) ∙ ap (take k) (sym cut ∙ taken) ∙ take-take k (length left) ks (omega (arith, one_more)),
+          subst (λ (y : ℕ). Refuting m l s ks e k (set ys k y) new) (sym settled.is)
+              (step m l s ks e k ys row here settled.quotient (m.product y raise) new below room settled.divides
+              (ap (λ a. m.product a raise) settled.is) settled.codes settled.added),
+        )
 
 pub loop-k-init : goal.loop-k-init
 loop-k-init g c =
@@ -86,8 +101,11 @@ loop-k-init g c =
     (ap (λ i. get_or (set ys c.len-count.result lead) i 0) (sym count) ∙ set_there ∙ lead_is)
     (by.1 ∙ ap₂ m.product lead_is c.raise.ensures)
     (zeros_read 32) (c.add_terms.ensures.codes by.0 zeros) (c.add_terms.ensures.added by.0 zeros)
-    in (
-      subst (λ (n : ℕ). Refuting m l s ks e n (set ys c.len-count.result lead) c.add_terms.new.row) (sym count) begun,
+    in
+    let all : iter_rest (enumerate_source (rev_source c.into_iter-k-iterator.result)) ≡ ks = cc in (
+      cc,
+      rw all (sym (take_all (length ks) ks (omega arith))),
+      rw all begun,
       set_there,
       λ i h. refl,
     )
@@ -95,32 +113,22 @@ loop-k-init g c =
 pub invariant_of-tie : goal.invariant_of-tie
 invariant_of-tie g c =
     let tie = c.args.tie.now in
-    let m = g.S.Scale.meaning tie.scale.now in
-    let ks = vec_items c.args.table.now.standing in
-    let below : c.loop-k.k - 1 < length ks =
-    omega (arith, c.loop-k-test.true, c.loop-k.auto.k, c.len-count.ensures, c.args.table.now.standing.ok.0)
-    in
+    let inv = c.loop-k.invariant in
     let known =
-    next_tie m (g.met.S.Scale.lawful tie.scale.now) (shape tie.layout.now) ks (equation tie.tie) c.loop-k.k
-    c.loop-k.multipliers c.loop-k.row c.index-standing.result.now c.loop-k-test.true below c.index-standing.ensures
-    c.loop-k.invariant.0
+    next_tie _ (g.met.S.Scale.lawful tie.scale.now) (shape tie.layout.now) (vec_items c.args.table.now.standing)
+    (equation tie.tie) _ _ c.loop-k.multipliers c.loop-k.row c.in-Some.standing.now inv.1 c.in-Some.ensures.steps.1.0 inv.2
     in
     record { sound = rw c.tie.ensures known.0 }
 
 pub settle-requires : goal.settle-requires
 settle-requires g c =
     let tie = c.args.tie.now in
-    let m = g.S.Scale.meaning tie.scale.now in
-    let ks = vec_items c.args.table.now.standing in
-    let below : c.loop-k.k - 1 < length ks =
-    omega (arith, c.loop-k-test.true, c.loop-k.auto.k, c.len-count.ensures, c.args.table.now.standing.ok.0)
-    in
+    let inv = c.loop-k.invariant in
     let known =
-    next_tie m (g.met.S.Scale.lawful tie.scale.now) (shape tie.layout.now) ks (equation tie.tie) c.loop-k.k
-    c.loop-k.multipliers c.loop-k.row c.index-standing.result.now c.loop-k-test.true below c.index-standing.ensures
-    c.loop-k.invariant.0
+    next_tie _ (g.met.S.Scale.lawful tie.scale.now) (shape tie.layout.now) (vec_items c.args.table.now.standing)
+    (equation tie.tie) _ _ c.loop-k.multipliers c.loop-k.row c.in-Some.standing.now inv.1 c.in-Some.ensures.steps.1.0 inv.2
     in
-    record { formed = known.1; codes = c.loop-k.invariant.0.codes; divides = known.2 }
+    record { formed = known.1; codes = inv.2.codes; divides = known.2 }
 
 pub loop-k-preserved : goal.loop-k-preserved
 loop-k-preserved g c =
@@ -128,20 +136,29 @@ loop-k-preserved g c =
     let m = g.S.Scale.meaning tie.scale.now in
     let s = shape tie.layout.now in
     let ks = vec_items c.args.table.now.standing in
-    let k = c.loop-k.k in
+    let inv = c.loop-k.invariant in
+    let steps = c.in-Some.ensures.steps in
+    let rest : List Standing = iter_rest (enumerate_source (rev_source c.next.new.self)) in
+    let k : ℕ = length rest in
     let ys = c.loop-k.multipliers in
-    let t = c.index-standing.result.now in
+    let t = c.in-Some.standing.now in
     let y = c.settle.result in
-    let below : k - 1 < length ks =
-    omega (arith, c.loop-k-test.true, c.loop-k.auto.k, c.len-count.ensures, c.args.table.now.standing.ok.0)
-    in
+    let at : c.in-Some.k ≡ k = omega (arith, steps.1.1, inv.0) in
+    let low : k < length ks = below m (g.met.S.Scale.lawful tie.scale.now) s ks (equation tie.tie) _ rest ys c.loop-k.row t inv.1 steps.1.0 inv.2 in
     let long = c.loop-k.auto.multipliers ∙ length-set c.args.multipliers.now c.len-count.result c.step_power-lead.result in
-    let room : k - 1 < length ys = omega (arith, c.requires.room, c.len-count.ensures) in (
-      next_settled m (g.met.S.Scale.lawful tie.scale.now) s ks (equation tie.tie) k ys c.loop-k.row t c.loop-k-test.true below
-          c.index-standing.ensures c.loop-k.invariant.0 c.settle.new.row y room
-          (subst (λ (e : Equation). Settled m s e t.pivot c.loop-k.row c.settle.new.row y) c.tie.ensures c.settle.ensures),
-      get_or-set_other ys (k - 1) c.len-count.result y 0 (λ f. omega arith) ∙ c.loop-k.invariant.1,
-      λ i h. get_or-set_other ys (k - 1) i y 0 (λ f. omega arith) ∙ c.loop-k.invariant.2 i h,
+    let count : c.len-count.result ≡ length ks = c.len-count.ensures ∙ c.args.table.now.standing.ok.0 in
+    let room : k < length ys = omega (arith, c.requires.room, c.len-count.ensures) in
+    let next =
+    next_settled m (g.met.S.Scale.lawful tie.scale.now) s ks (equation tie.tie) _ rest ys c.loop-k.row t inv.1 steps.1.0 inv.2
+    c.settle.new.row y room
+    (subst (λ (e : Equation). Settled m s e t.pivot c.loop-k.row c.settle.new.row y) c.tie.ensures c.settle.ensures)
+    in
+    rw at (
+      steps.0 ∙ inv.0,
+      next.0,
+      next.1,
+      get_or-set_other ys k c.len-count.result y 0 (λ f. omega arith) ∙ inv.3,
+      λ i h. get_or-set_other ys k i y 0 (λ f. omega arith) ∙ inv.4 i h,
     )
 
 pub returns : goal.returns
@@ -158,8 +175,8 @@ returns g c =
     let ys = c.loop-k.multipliers in
     let count : c.len-count.result ≡ length ks = c.len-count.ensures ∙ table.standing.ok.0 in
     let v = m.level p.divisor in
-    let none : c.loop-k.k ≡ 0 = omega (arith, c.loop-k-test.false) in
-    let ended = subst (λ (n : ℕ). Refuting m l s ks e n ys c.loop-k.row) none c.loop-k.invariant.0 in
+    let none = c.in-None.ensures.steps.1.0 in
+    let ended = subst (λ (n : ℕ). Refuting m l s ks e n ys c.loop-k.row) none c.loop-k.invariant.2 in
     let lead_is : c.step_power-lead.result ≡ power m (digits m - v) =
     c.step_power-lead.ensures ∙ ap (power m) c.fixed.ensures
     in
@@ -169,8 +186,8 @@ returns g c =
     let short : m.level (rest m s e xs) < v = subst (λ (a : ℕ). m.level a < v) c.requires.measures.missing c.requires.short in
     let longer : length (map equation_of ks ++ (e ∷ [])) ≡ suc (length ks) = omega (arith, length-append (map equation_of ks) (e ∷ []), length-map ks equation_of) in (
       done m l s ks e xs ys c.loop-k.row c.requires.within sounds solves ended v
-          (ap (λ i. get_or ys i 0) (sym count) ∙ c.loop-k.invariant.1 ∙ lead_is) short most,
+          (ap (λ i. get_or ys i 0) (sym count) ∙ c.loop-k.invariant.3 ∙ lead_is) short most,
       λ i h.
-          c.loop-k.invariant.2 i (omega arith)
+          c.loop-k.invariant.4 i (omega arith)
           ∙ get_or-set_other c.args.multipliers.now c.len-count.result i c.step_power-lead.result 0 (λ f. omega arith),
     )

@@ -1,5 +1,5 @@
 use Rattle.std.proofs.Common.{◌≡◌, ℕ, ◌+◌, ◌*◌, length, ap, ap₂, ◌∙◌, sym, subst, arith}
-use Rattle.std.proofs.lemmas.List.{length_push, take_rest}
+use Rattle.std.proofs.lemmas.List.{length_push}
 use Rattle.scale.specs.Meaning.{Code}
 use Rattle.scale.proofs.Codes.{power_code}
 use Rattle.ties.specs.Equations.{equation, total}
@@ -7,8 +7,8 @@ use Rattle.ties.specs.Layouts.{shape}
 use Rattle.book.specs.Rows.{Codes, row_of}
 use Rattle.book.specs.Sheets.{generator_of}
 use Rattle.book.specs.Standing.{raised}
-use Rattle.book.proofs.Filling.{holds_push, part_codes, product_is, push_codes, zeros_codes}
-use Rattle.book.proofs.Spots.{total_cut, walk_end, walk_next, walk_none}
+use Rattle.book.proofs.Filling.{holds_push, part_codes, product_is, push_codes}
+use Rattle.book.proofs.Spots.{total_cut, walk_end, walk_next}
 use Rattle.book.proofs.measuring.multiply_out.Goals as goal
 
 pub total_at-requires-clause-codes : goal.total_at-requires-clause-codes
@@ -19,18 +19,6 @@ total_at-requires-clause-codes g c =
     let steps = c.in-Some.ensures.steps in
     let next = walk_next tie.layout.now n is c.args.rows.now c.requires.size _ _ _ c.loop-row.invariant.0 _ c.in-Some.row.now _ steps.0 steps.1.0 steps.1.1 in
     rw next.0 (part_codes _ (g.met.S.Scale.lawful tie.scale.now) _ _ c.args.rows.now c.requires.codes)
-
-pub loop-row-init : goal.loop-row-init
-loop-row-init g c =
-    let m = g.S.Scale.meaning c.args.tie.now.scale.now in
-    let l = g.met.S.Scale.lawful c.args.tie.now.scale.now in
-    let rows = c.args.rows.now in
-    let it = c.chunks_exact-row-items.ensures in (
-      rw c.into_iter-row-iterator.ensures.into_iter_gives (walk_none c.places-n.result rows _ _ it.size (it.rest ∙ take_rest rows c.places-n.result)),
-      ap length c.new-products.ensures,
-      rw c.new-products.ensures (zeros_codes m l 0),
-      λ i h. absurd (omega arith),
-    )
 
 pub loop-row-preserved : goal.loop-row-preserved
 loop-row-preserved g c =

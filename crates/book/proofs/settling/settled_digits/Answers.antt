@@ -1,12 +1,12 @@
 use Rattle.std.proofs.Common.{◌≡◌, ℕ, ◌+◌, ◌*◌, min, length, ap, ◌∙◌}
-use Rattle.std.proofs.lemmas.List.{length_push, take_rest}
+use Rattle.std.proofs.lemmas.List.{length_push}
 use Rattle.ties.specs.Equations.{equation, total}
 use Rattle.ties.specs.Layouts.{shape}
 use Rattle.book.specs.Rows.{row_of}
 use Rattle.book.specs.Sheets.{generator_of}
 use Rattle.book.proofs.Filling.{level_is, part_codes}
-use Rattle.book.proofs.Queries.{least_more, least_none}
-use Rattle.book.proofs.Spots.{total_cut, walk_end, walk_next, walk_none}
+use Rattle.book.proofs.Queries.{least_more}
+use Rattle.book.proofs.Spots.{total_cut, walk_end, walk_next}
 use Rattle.book.proofs.settling.settled_digits.Goals as goal
 
 pub total_at-requires-clause-codes : goal.total_at-requires-clause-codes
@@ -17,16 +17,6 @@ total_at-requires-clause-codes g c =
     let steps = c.in-Some.ensures.steps in
     let next = walk_next tie.layout.now n is c.args.rows.now c.requires.size _ _ _ c.loop-row.invariant.0 _ c.in-Some.row.now _ steps.0 steps.1.0 steps.1.1 in
     rw next.0 (part_codes _ (g.met.S.Scale.lawful tie.scale.now) _ _ c.args.rows.now c.requires.codes)
-
-pub loop-row-init : goal.loop-row-init
-loop-row-init g c =
-    let tie = c.args.tie.now in
-    let m = g.S.Scale.meaning tie.scale.now in
-    let rows = c.args.rows.now in
-    let it = c.chunks_exact-row-items.ensures in (
-      rw c.into_iter-row-iterator.ensures.into_iter_gives (walk_none c.places-n.result rows _ _ it.size (it.rest ∙ take_rest rows c.places-n.result)),
-      rw c.width-settled.ensures (least_none m (shape tie.layout.now) (equation tie.tie) rows),
-    )
 
 pub loop-row-preserved : goal.loop-row-preserved
 loop-row-preserved g c =

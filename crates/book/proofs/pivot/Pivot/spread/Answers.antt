@@ -3,7 +3,7 @@ use borrow.Rule.Slice.PartMut.{put_mid}
 use Rattle.book.specs.Rows.{Codes}
 use Rattle.book.proofs.Filling.{filled, part_codes, put_codes}
 use Rattle.book.proofs.Spots.{row_inside}
-use Rattle.book.proofs.Steps.{Spreading, spread, spread_more, spread_none, spread_pass}
+use Rattle.book.proofs.Steps.{Spreading, spread, spread_more, spread_pass}
 use Rattle.book.proofs.pivot.Pivot.spread.Goals as goal
 
 pub add_multiple-requires-clause-codes : goal.add_multiple-requires-clause-codes
@@ -13,14 +13,6 @@ add_multiple-requires-clause-codes g c =
       part_codes m l 0 c.len-n.result c.args.rows.now c.requires.codes.0,
       subst (Codes m) (sym c.deref.ensures.0) c.requires.formed.row_codes,
       c.requires.codes.1,
-    )
-
-pub loop-i-init : goal.loop-i-init
-loop-i-init g c =
-    let m = g.S.Scale.meaning c.args.scale.now in
-    let l = g.met.S.Scale.lawful c.args.scale.now in (
-      put_codes m l 0 c.len-n.result c.args.rows.now c.add_multiple.new.to c.requires.codes.0 c.add_multiple.ensures.codes,
-      spread_none m _ _ _ _ _,
     )
 
 pub add_multiple-requires-then-i-self-clause-codes : goal.add_multiple-requires-then-i-self-clause-codes
