@@ -1,4 +1,4 @@
-// What a tie asks of the rows of a table.
+// What measuring a tie finds.
 
 use crate::pivot::Pivot;
 

@@ -12,12 +12,9 @@ use std::env;
 use std::fs::File;
 use std::io::Read;
 use std::process::ExitCode;
-use tie_file::MOST_BYTES;
+use tie_file::ENOUGH_BYTES;
 
 mod failure;
-
-// A file that is too long is refused without being read to its end.
-const ENOUGH: u64 = MOST_BYTES as u64 + 1;
 
 // The message is written here: an error that `main` returned would be written once more.
 fn main(rt: HostRuntime) -> Result<ExitCode, Failure> {
@@ -61,6 +58,6 @@ fn contents(rt: &HostRuntime, path: &str) -> Result<Vec<u8>, Failure> {
         Err(error) => return Err(Failure::File(path.to_string(rt.alloc())?, error)),
     };
     let mut bytes = Vec::new(rt.alloc());
-    file.take(ENOUGH).read_to_end(&mut bytes)?;
+    file.take(ENOUGH_BYTES).read_to_end(&mut bytes)?;
     Ok(bytes)
 }

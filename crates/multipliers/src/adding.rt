@@ -9,7 +9,7 @@ ghost use Rattle.ties.specs.Layouts.{shape};
 use scale::Scale;
 use ties::sound::SoundTie;
 
-// Adds `by` times each factor to the number at its counter's place. All are to be codes.
+// Adds `by` times each factor to the number at its counter's place. Where these are codes, so is what it writes.
 pub fn add_terms<S: Scale>(tie: &SoundTie<S>, by: u32, row: &mut [u32; 32])
     ensures whole { length row.new ≡ 32 }
     ensures codes { let m = S.Scale.meaning tie.now.scale.now in Code m by → Codes m row.old → Codes m row.new }

@@ -1,8 +1,9 @@
 -- The numbers of an odd base are fit.
 use Rattle.std.specs.Prelude.{◌≡◌, ℕ, ◌-◌, ◌%◌, ◌^◌, ◌<◌, ◌≤◌}
-use Rattle.std.proofs.Common.{sym, subst, mod-lt, lt_of_le_of_lt, le_trans, lit<, arith}
-use Rattle.std.proofs.Math.Nat.{one-le-pow, pow-le-pow_left, pow-le-pow_right}
+use Rattle.std.proofs.Common.{sym, subst, mod-lt, lt_of_lt_of_le, lit≤, arith}
+use Rattle.std.proofs.Math.Nat.{one-le-pow}
 use Rattle.scales.specs.declared.prime.OddBase.{OddBase}
+use Rattle.scales.specs.Inverses.{small_power}
 use Rattle.scales.specs.Kinds.{prime_mark}
 use Rattle.scales.specs.Known.{fits}
 use Rattle.scales.specs.Whole.{Fit}
@@ -18,8 +19,5 @@ pub odd_inverse : (s : OddBase) (unit : ℕ) → (unit % s.base) ^ (s.base - 2) 
 odd_inverse s unit =
     let fit = odd_fit s in
     let digit : unit % s.base < s.base = mod-lt unit (omega (arith, fit.0.base_least)) in
-    lt_of_le_of_lt
-    (le_trans
-    (pow-le-pow_left {n = unit % s.base} {m = 7} (omega (arith, digit, fit.1)) (s.base - 2))
-    (pow-le-pow_right {n = 7} (omega arith) {i = s.base - 2} {j = 5} (omega (arith, fit.1))))
-    (lit< tt)
+    let small = small_power (unit % s.base) s.base digit fit.1 in
+    lt_of_lt_of_le small (lit≤ tt)

@@ -1,7 +1,7 @@
 -- Inverses modulo a power of the base: a digit's, by a table, and a number's, by Newton's doubling.
 use Rattle.std.specs.Prelude.{◌≡◌, ℕ, zero, suc, ◌+◌, ◌-◌, ◌*◌, ◌/◌, ◌%◌, ◌^◌, ◌<◌, ◌≤◌, min, Bool, true, false, ◌&&◌, T, ◌==◌}
-use Rattle.std.proofs.Common.{sym, ap, ap₂, ◌∙◌, subst, subst₂, mul_assoc, mul_comm, one-mul, mul-zero, div-add-mod', mod-lt, mod-eq_of_lt, pow-suc, eq-or-lt_of_le, mul-le-mul, inl, inr, arith, eqb→eq, pow-add}
-use Rattle.std.proofs.Math.Nat.{mul-mul-mul_comm, zero-mod, mod-eq-zero_of_dvd, pow-zero, min-eq_left, min-eq_right, two-pow-succ, one-le-pow}
+use Rattle.std.proofs.Common.{sym, ap, ap₂, ◌∙◌, subst, subst₂, mul_assoc, mul_comm, one-mul, mul-zero, div-add-mod', mod-lt, mod-eq_of_lt, pow-suc, eq-or-lt_of_le, mul-le-mul, lt_of_le_of_lt, le_trans, inl, inr, arith, eqb→eq, lit<, pow-add}
+use Rattle.std.proofs.Math.Nat.{mul-mul-mul_comm, zero-mod, mod-eq-zero_of_dvd, pow-zero, min-eq_left, min-eq_right, two-pow-succ, one-le-pow, pow-le-pow_left, pow-le-pow_right}
 use Rattle.std.proofs.lemmas.Nat.{mul-mod, mul-mod_first, mul-mod_second}
 use Rattle.scales.specs.Remainders.{of_multiple, power_divides, power_mod, lower_power, above_exponent, newton}
 
@@ -36,6 +36,13 @@ by_table q t d h l = look_up q (q - 1) t d h (omega arith)
 pub last_inverse : (q w : ℕ) → 2 ≤ q → Inverted q → 0 < w % q → (w * (w % q) ^ (q - 2)) % q ≡ 1
 last_inverse q w hq inverted h =
     sym (mul-mod_first w ((w % q) ^ (q - 2)) q) ∙ inverted (w % q) h (mod-lt w (omega arith))
+
+-- that power is small in a small base
+pub small_power : (d q : ℕ) → d < q → q ≤ 7 → d ^ (q - 2) < 2 ^ 31
+small_power d q h l =
+    lt_of_le_of_lt
+    (le_trans (pow-le-pow_left {n = d} {m = 7} (omega arith) (q - 2)) (pow-le-pow_right {n = 7} (omega arith) {i = q - 2} {j = 5} (omega arith)))
+    (lit< tt)
 
 -- and a product is no multiple of q unless a factor is
 pub prime_like : (q : ℕ) → 2 ≤ q → Inverted q → (x y : ℕ) → 0 < x % q → (x * y) % q ≡ 0 → y % q ≡ 0
@@ -104,8 +111,31 @@ pub doubled :
 doubled q e j w x hq he hj inv =
     doubles q e (min j e) (min (j + j) e) w x hq (omega arith) (omega arith) (omega arith) (omega arith) inv
 
--- the same step, as code takes it
+-- the same step, as code takes it: each number is known by an equation
 pub turned :
+    (q e j w x : ℕ) {u v near t r s y : ℕ}
+    → 2 ≤ q
+    → 1 ≤ e
+    → 1 ≤ j
+    → u ≡ w
+    → v ≡ x
+    → near ≡ (u * v) % q ^ e
+    → t ≡ near
+    → r ≡ x
+    → s ≡ q ^ e
+    → y ≡ (r * (s + 2 - t)) % q ^ e
+    → Inverse q (min j e) w x
+    → Inverse q (min (j * 2) e) w y
+turned q e j w x {u} {v} {near} {t} {r} {s} {y} hq he hj eu ev en et er es ey inv =
+    let product : t ≡ (w * x) % q ^ e = et ∙ en ∙ ap₂ (λ (a b : ℕ). (a * b) % q ^ e) eu ev in
+    let is : y ≡ stepped (q ^ e) w x =
+    ey ∙ ap₂ (λ (a b : ℕ). (a * (b + 2 - t)) % q ^ e) er es ∙ ap (λ (k : ℕ). (x * (q ^ e + 2 - k)) % q ^ e) product in
+    let two : j + j ≡ j * 2 = omega arith in
+    subst (λ (m : ℕ). Inverse q (min m e) w y) two
+    (subst (λ (z : ℕ). Inverse q (min (j + j) e) w z) (sym is) (doubled q e j w x hq he hj inv))
+
+-- the same step by factors that are read first
+pub turned_reading :
     (q e j w x : ℕ) {size near y : ℕ}
     → 2 ≤ q
     → 1 ≤ e
@@ -115,7 +145,7 @@ pub turned :
     → y ≡ ((x % q ^ e) * ((size + 2 - near) % q ^ e)) % q ^ e
     → Inverse q (min j e) w x
     → Inverse q (min (j * 2) e) w y
-turned q e j w x {size} {near} {y} hq he hj es en ey inv =
+turned_reading q e j w x {size} {near} {y} hq he hj es en ey inv =
     let n : ℕ = q ^ e in
     let is : stepped n w x ≡ y =
     sym

@@ -8,6 +8,10 @@ use Rattle.std.proofs.Math.Nat.{add-mod-mod, mul-div_cancel', dvd_of_mod-eq-zero
 pub remainder_below : (n x r m : ℕ) → 0 < n → n ≤ m → r ≡ x % n → r < m
 remainder_below n x r m hn h e = subst (λ (y : ℕ). y < m) (sym e) (lt_of_lt_of_le (mod-lt x hn) h)
 
+-- a remainder of a number that is known by another name
+pub read : (n : ℕ) {x y r : ℕ} → r ≡ x % n → x ≡ y → r ≡ y % n
+read n e f = e ∙ ap (λ (x : ℕ). x % n) f
+
 -- a multiple is the divisor times the quotient
 pub multiple : (d a : ℕ) → a % d ≡ 0 → a ≡ d * (a / d)
 multiple d a h = sym (mul-div_cancel' d (dvd_of_mod-eq-zero d h))
@@ -23,6 +27,10 @@ power_divides q v e h =
 
 pub power_mod : (q v e a : ℕ) → v ≤ e → (a % q ^ e) % q ^ v ≡ a % q ^ v
 power_mod q v e a h = mod-mod_of_dvd (q ^ v) a (power_divides q v e h)
+
+-- agreeing by a higher power, two numbers agree by a lower one
+pub lower_same : (q v w a b : ℕ) → v ≤ w → a % q ^ w ≡ b % q ^ w → a % q ^ v ≡ b % q ^ v
+lower_same q v w a b h s = sym (power_mod q v w a h) ∙ ap (λ (x : ℕ). x % q ^ v) s ∙ power_mod q v w b h
 
 -- what a higher power divides, a lower one does
 pub lower_power : (q v w a : ℕ) → v ≤ w → a % q ^ w ≡ 0 → a % q ^ v ≡ 0

@@ -19,7 +19,7 @@ pub struct LayoutBody<'a> {
 }
 
 // What a tie's body holds: a tie that owns its terms.
-#[derive(Drop, Debug)]
+#[derive(Clone, PartialEq, Eq, Debug, Drop)]
 pub struct TieBody {
     pub target: u8,
     pub right: u32,

@@ -40,10 +40,7 @@ impl<'a> TieFile<'a> {
         ensures formed { WellFormed self.now }
         ensures layout { IsLayout (body_at self.now 0) result }
     {
-        match layout_in(self.bytes) {
-            Some(layout) => layout,
-            None => unreachable(),
-        }
+        layout_in(self.bytes).unwrap()
     }
 
     // Tie `i`, counting from 0, where there are so many.

@@ -21,6 +21,9 @@ pub mod parts;
 // A longer file is refused.
 pub const MOST_BYTES: usize = 16_384;
 
+// As many bytes of a file as tell whether it is longer.
+pub const ENOUGH_BYTES: u64 = MOST_BYTES as u64 + 1;
+
 // The file, where it is well formed. Each check is made over the whole of it before the next.
 pub fn verify(file: &[u8]) -> Result<TieFile<'_>, FileFault>
     ensures { let f = file.now in MatchResult result (λ t. WellFormed f × (t ≡ f)) (Bad f) }

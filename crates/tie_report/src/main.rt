@@ -10,10 +10,7 @@ use report::lines::Lines;
 use report::report;
 use std::io::Read;
 use std::process::ExitCode;
-use tie_file::MOST_BYTES;
-
-// A file that is too long is refused without being read to its end.
-const ENOUGH: u64 = MOST_BYTES as u64 + 1;
+use tie_file::ENOUGH_BYTES;
 
 // The message is written here: an error that `main` returned would be written once more.
 fn main(rt: HostRuntime) -> anyhow::Result<ExitCode> {
@@ -28,7 +25,7 @@ fn main(rt: HostRuntime) -> anyhow::Result<ExitCode> {
 
 fn run(rt: &HostRuntime) -> anyhow::Result<()> {
     let mut file = Vec::new(rt.alloc());
-    rt.stdin().take(ENOUGH).read_to_end(&mut file)?;
+    rt.stdin().take(ENOUGH_BYTES).read_to_end(&mut file)?;
     let Some(lines) = Lines::new(report(rt.alloc(), &file)) else {
         return Err(anyhow!("no memory for the book"));
     };

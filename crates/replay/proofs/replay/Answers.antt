@@ -43,26 +43,3 @@ loop-call-preserved g c =
           (sym (take_more calls i none c.loop-call-test.true)) (sym c.push_reserved.ensures.items) ran;
     }
 
-pub returns : goal.returns
-returns g c =
-    let meaning = g.S.Scale.meaning in
-    let opened = c.in_ok-book.ensures in
-    let start = c.in_ok-book.book in
-    let calls = c.args.calls.now in
-    let inv = c.loop-call.invariant in
-    let end : c.loop-call.call-index ≡ length calls = omega (arith, c.loop-call-test.false) in
-    let whole : take c.loop-call.call-index calls ≡ calls =
-    ap (λ n. take n calls) end ∙ take_all (length calls) calls (omega arith)
-    in
-    let rs = vec_items c.loop-call.answers in
-    let s : Shape = record { heads = c.args.heads; widths = c.args.widths.now } in
-    let last = place_of c.loop-call.book in
-    record {
-      sized = opened.sized;
-      within = opened.within;
-      first = place_of start;
-      last = last;
-      nothing = opened.nothing;
-      run = subst₂ (λ (m : Meaning) (q : Shape). Run m q (place_of start) calls rs last) (ap meaning opened.same_scale) opened.same_shape
-          (subst (λ (cs : List Call). Run (meaning start.scale) (shape start.layout) (place_of start) cs rs last) whole inv.ran);
-    }

@@ -70,7 +70,7 @@ impl Layout {
     }
 }
 
-// Whether each width is from 1 to `length`.
+// Whether each width is from 1 to `most`.
 fn within(most: u8, widths: &[u8]) -> bool
     ensures { Decides result (InWidths most widths.now) }
 {
