@@ -1,5 +1,5 @@
-use Rattle.std.proofs.Common.{◌≡◌, ◌+◌, List, [], length, get_or, take, vec_items, sym, ap, ◌∙◌, subst, subst₂, arith}
-use Rattle.std.proofs.lemmas.List.{take_all, take_more}
+use Rattle.std.proofs.Common.{◌+◌, List, [], get_or, take, vec_items, sym, ap, ◌∙◌, subst₂, arith}
+use Rattle.std.proofs.lemmas.List.{take_more}
 use Rattle.scale.specs.Meaning.{Meaning}
 use Rattle.ties.specs.Layouts.{Shape, shape}
 use Rattle.replay.specs.declared.answer.Answer.{Answer}
@@ -42,4 +42,3 @@ loop-call-preserved g c =
       ran = subst₂ (λ (cs : List Call) (rs : List Answer). Run (meaning start.scale) (shape start.layout) (place_of start) cs rs (place_of new))
           (sym (take_more calls i none c.loop-call-test.true)) (sym c.push_reserved.ensures.items) ran;
     }
-

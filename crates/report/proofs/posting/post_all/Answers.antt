@@ -22,6 +22,14 @@ returns-in-Err g c =
     (subst (λ (b : Held _). Sofar meaning first es i b) (sym done.book) c.loop-i.invariant)
     (refl, here, stopped) c.sum_up.ensures.standing c.sum_up.ensures.stopped c.sum_up.ensures.digits
 
+pub loop-i-preserved : goal.loop-i-preserved
+loop-i-preserved g c =
+    let es = equations c.args.file.now in
+    let done = c.in_default.ensures in
+    let here : c.loop-i.i < length es = omega (arith, equations_length c.args.file.now, c.ties-ties.ensures, c.loop-i-test.true) in
+    sofar_more g.S.Scale.meaning c.args.book.now es c.loop-i.i c.loop-i.book
+    c.post_nth.new.book c.in_default.field-0 here c.loop-i.invariant done.answer done.book
+
 pub returns : goal.returns
 returns g c =
     let meaning = g.S.Scale.meaning in
