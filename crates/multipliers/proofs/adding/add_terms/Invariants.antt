@@ -1,7 +1,7 @@
-use Rattle.std.proofs.Common.{◌≡◌, length}
+use Rattle.std.proofs.Common.{◌≡◌, ℕ, ◌≤◌, get_or, length}
 use Rattle.scale.specs.Meaning.{Code, summed}
 use Rattle.ties.specs.Equations.{term_at}
-use Rattle.ties.specs.Layouts.{shape}
+use Rattle.ties.specs.Layouts.{places, shape}
 use Rattle.multipliers.specs.Refuting.{factor_in}
 use Rattle.multipliers.specs.Totals.{Codes, Shares}
 use Rattle.multipliers.proofs.adding.add_terms.Given as goal
@@ -10,6 +10,7 @@ abbrev pub invariant-loop-term : goal.invariant-loop-term
 invariant-loop-term g l =
     let m = g.S.Scale.meaning l.tie.scale.now in
     (length l.row ≡ 32)
+    × ((i : ℕ) → places (shape l.tie.layout.now) ≤ i → get_or l.row i 0 ≡ get_or l.initial.row i 0)
     × (Code m l.by
     → Codes m l.initial.row
     → Codes m l.row
