@@ -2,7 +2,6 @@
 use Rattle.std.specs.Prelude.{◌≡◌, ℕ, ◌+◌, ◌*◌, ◌≤◌, ◌⊎◌, List, length, ◌≢◌}
 use Rattle.refusals.specs.declared.Refusal.{Refusal}
 use Rattle.refusals.specs.declared.Refusal.TheVariants as refusal
-use Rattle.ties.specs.Equations.{Equation}
 use Rattle.ties.specs.Layouts.{Shape}
 use Rattle.tie_file.specs.declared.fault.FileFault.{FileFault}
 use Rattle.tie_file.specs.declared.fault.FileFault.TheVariants.{Contents, Entry as BadEntry, Body}
@@ -11,7 +10,6 @@ use Rattle.tie_file.specs.declared.entry.Kind.TheVariants as kind
 use Rattle.tie_file.specs.declared.entry.Entry.{Entry}
 use Rattle.tie_file.specs.declared.entry.Entry.TheVariants.{Layout, Tie}
 use Rattle.tie_file.specs.declared.body.LayoutBody.{LayoutBody}
-use Rattle.tie_file.specs.declared.body.TieBody.{TieBody}
 use Rattle.tie_file.specs.Table.{HasTable, HasEntries, HasBodies, TieLength, kind_at, start_at, extent_at, body_at}
 use Rattle.tie_file.specs.Bodies.{mark_of, shape_of}
 
@@ -56,10 +54,6 @@ pub record IsLayout (b : List ℕ) (l : LayoutBody) : Type 0 where
 -- the shape that a layout's body states
 abbrev pub shape_in : LayoutBody → Shape
 shape_in l = record { heads = l.heads; widths = l.widths.now }
-
--- the equation that is read of a tie's body
-abbrev pub equation_in : TieBody → Equation
-equation_in t = record { target = t.target; right = t.right; terms = t.terms.items }
 
 -- the first entry is a layout's, and has its five bytes
 abbrev pub HasLayout : List ℕ → Type 0

@@ -2,13 +2,14 @@
 
 ghost use Rattle.std.specs.Prelude.{◌≡◌, ◌+◌, ◌*◌, ◌<◌, ◌≤◌, length, MatchOption};
 ghost use Rattle.tie_file.specs.Bodies.{equation_of, long, term_in};
-ghost use Rattle.tie_file.specs.Reading.{IsLayout, equation_in};
+ghost use Rattle.tie_file.specs.Reading.{IsLayout};
 ghost use Rattle.tie_file.specs.Table.{TieLength};
-ghost use Rattle.ties.specs.Equations.{equation};
+ghost use Rattle.ties.specs.Equations.{equation_in};
 
 use arrayvec::ArrayVec;
 use scale::Mark;
-use ties::tie::{Term, Tie};
+use ties::owned::OwnedTie;
+use ties::tie::Term;
 
 // A layout's body; its widths are borrowed from it.
 #[derive(Clone, Copy, Debug)]
@@ -16,26 +17,6 @@ pub struct LayoutBody<'a> {
     pub mark: Mark,
     pub heads: u8,
     pub widths: &'a [u8],
-}
-
-// What a tie's body holds: a tie that owns its terms.
-#[derive(Clone, PartialEq, Eq, Debug, Drop)]
-pub struct TieBody {
-    pub target: u8,
-    pub right: u32,
-    pub terms: ArrayVec<Term, 32>,
-}
-
-impl TieBody {
-    pub fn tie(&self) -> Tie<'_>
-        ensures { equation result ≡ equation_in self.now }
-    {
-        Tie {
-            target: self.target,
-            right: self.right,
-            terms: &self.terms,
-        }
-    }
 }
 
 // A layout's body taken apart, where it has its five bytes.
@@ -90,7 +71,7 @@ fn nth_term(body: &[u8], i: usize) -> Term
 }
 
 // A tie's body taken apart, where its length is a tie's.
-pub fn tie_of(body: &[u8]) -> Option<TieBody>
+pub fn tie_of(body: &[u8]) -> Option<OwnedTie>
     ensures { let b = body.now in MatchOption result (TieLength (length b) → ⊥) (λ t. TieLength (length b) × (equation_in t ≡ equation_of b)) }
 {
     let count = count_terms(body.len())?;
@@ -98,7 +79,7 @@ pub fn tie_of(body: &[u8]) -> Option<TieBody>
     for i in 0..count {
         terms.push(nth_term(body, i));
     }
-    Some(TieBody {
+    Some(OwnedTie {
         target: body[0],
         right: long_at(body, 1),
         terms,

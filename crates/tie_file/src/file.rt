@@ -2,13 +2,14 @@
 
 ghost use Rattle.std.specs.Prelude.{◌≡◌, ◌+◌, ◌<◌, ◌≤◌, MatchOption};
 ghost use Rattle.tie_file.specs.Bodies.{equations};
-ghost use Rattle.tie_file.specs.Reading.{IsLayout, equation_in};
+ghost use Rattle.tie_file.specs.Reading.{IsLayout};
 ghost use Rattle.tie_file.specs.Table.{WellFormed, body_at, entries};
-ghost use Rattle.ties.specs.Equations.{nth_equation};
+ghost use Rattle.ties.specs.Equations.{equation_in, nth_equation};
 
-use crate::body::{LayoutBody, TieBody};
+use crate::body::LayoutBody;
 use crate::parts::{layout_in, tie_in};
 use std::marker::Model;
+use ties::owned::OwnedTie;
 
 // A well-formed file, borrowed, and how many ties it has. To a contract it is its bytes.
 #[derive(Drop)]
@@ -44,7 +45,7 @@ impl<'a> TieFile<'a> {
     }
 
     // Tie `i`, counting from 0, where there are so many.
-    pub fn tie(&self, i: usize) -> Option<TieBody>
+    pub fn tie(&self, i: usize) -> Option<OwnedTie>
         ensures { let f = self.now in MatchOption result (entries f ≤ i + 1) (λ t. (i + 1 < entries f) × (equation_in t ≡ nth_equation (equations f) i)) }
     {
         if i < self.ties {

@@ -2,11 +2,13 @@
 
 ghost use Rattle.std.specs.Prelude.{◌≡◌, ◌+◌, MatchOption};
 ghost use Rattle.tie_file.specs.Bodies.{equation_of};
-ghost use Rattle.tie_file.specs.Reading.{HasLayout, HasTie, IsLayout, equation_in};
+ghost use Rattle.tie_file.specs.Reading.{HasLayout, HasTie, IsLayout};
 ghost use Rattle.tie_file.specs.Table.{body_at};
+ghost use Rattle.ties.specs.Equations.{equation_in};
 
-use crate::body::{LayoutBody, TieBody, layout_of, tie_of};
+use crate::body::{LayoutBody, layout_of, tie_of};
 use crate::entry::{Entry, nth_entry};
+use ties::owned::OwnedTie;
 
 // The layout that the first entry states.
 pub fn layout_in(file: &[u8]) -> Option<LayoutBody<'_>>
@@ -19,7 +21,7 @@ pub fn layout_in(file: &[u8]) -> Option<LayoutBody<'_>>
 }
 
 // Tie `i`, counting from 0 behind the layout.
-pub fn tie_in(file: &[u8], i: usize) -> Option<TieBody>
+pub fn tie_in(file: &[u8], i: usize) -> Option<OwnedTie>
     ensures { let f = file.now in MatchOption result (HasTie f i → ⊥) (λ t. HasTie f i × (equation_in t ≡ equation_of (body_at f (i + 1)))) }
 {
     match nth_entry(file, i.checked_add(1)?)? {

@@ -4,6 +4,7 @@ use Rattle.std.specs.List.{All}
 use Rattle.scale.specs.Meaning.{Meaning, base, summed}
 use Rattle.ties.specs.declared.tie.Term.{Term}
 use Rattle.ties.specs.declared.tie.Tie.{Tie}
+use Rattle.ties.specs.declared.owned.OwnedTie.{OwnedTie}
 use Rattle.ties.specs.Layouts.{Shape, width_of, Assignment, Assigns, Same, less}
 
 -- the equation that a tie states: a target counter, a right side, and terms
@@ -14,6 +15,10 @@ pub record Equation : Type 0 where
 
 abbrev pub equation : Tie → Equation
 equation t = record { target = t.target; right = t.right; terms = t.terms.now }
+
+-- the same of a tie that owns its terms
+abbrev pub equation_in : OwnedTie → Equation
+equation_in t = record { target = t.target; right = t.right; terms = t.terms.items }
 
 -- the digits that an equation speaks of: those of its target
 abbrev pub depth : Shape → Equation → ℕ

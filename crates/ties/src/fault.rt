@@ -43,10 +43,10 @@ impl TermFault {
         ensures { result ≡ term_place self }
     {
         match self {
-            TermFault::Absent(place) => place,
-            TermFault::Order(place) => place,
-            TermFault::NoCode(place) => place,
-            TermFault::Coarse(place) => place,
+            TermFault::Absent(place)
+            | TermFault::Order(place)
+            | TermFault::NoCode(place)
+            | TermFault::Coarse(place) => place,
         }
     }
 }

@@ -4,6 +4,7 @@
 
 pub mod fault;
 pub mod layout;
+pub mod owned;
 pub mod sound;
 mod terms;
 pub mod tie;

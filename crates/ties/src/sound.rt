@@ -3,13 +3,15 @@
 ghost use Rattle.std.proofs.Props.{props};
 ghost use Rattle.std.specs.Prelude.{◌≡◌, ◌-◌};
 ghost use Rattle.scale.specs.Meaning.{digits, power};
-ghost use Rattle.ties.specs.Equations.{depth, equation};
+ghost use Rattle.ties.specs.Equations.{depth, equation, equation_in};
 ghost use Rattle.ties.specs.Faults.{Sound};
 ghost use Rattle.ties.specs.Layouts.{shape};
 ghost use Rattle.ties.specs.Propositions.{Above_prop};
 
 use crate::layout::Layout;
+use crate::owned::OwnedTie;
 use crate::tie::Tie;
+use arrayvec::ArrayVec;
 use scale::{Scale, step_power};
 
 // A tie that passed the checks, with the scale and the layout that it passed them for.
@@ -27,6 +29,17 @@ impl<S: Scale> SoundTie<'_, '_, S> {
     {
         let depth = self.layout.width(self.tie.target);
         step_power(self.scale, self.scale.mark().length.saturating_sub(depth))
+    }
+
+    // The tie with terms of its own: since they rise, there are 32 at most.
+    pub fn to_owned(&self) -> OwnedTie
+        ensures { equation_in result ≡ equation self.now.tie }
+    {
+        OwnedTie {
+            target: self.tie.target,
+            right: self.tie.right,
+            terms: ArrayVec::try_from(self.tie.terms).unwrap(),
+        }
     }
 }
 
