@@ -31,7 +31,7 @@ Sofar m s es ys n t =
 
 pub sofar_none : (m : Meaning) → Laws m → (s : Shape) (es : List Equation) (ys : List ℕ) → Sofar m s es ys 0 nothing
 sofar_none m l s es ys = (
-  (refl, (λ i. subst (Code m) (sym (zeros_read 32 i)) (zero_code m l)), zero_code m l),
+  ((λ i. subst (Code m) (sym (zeros_read 32 i)) (zero_code m l)), zero_code m l),
   (λ j h. absurd (omega arith)),
   ((λ h c has. zeros_read 32 (place s h c)), refl),
 )

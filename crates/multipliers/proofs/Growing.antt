@@ -168,10 +168,6 @@ module _ (m : Meaning) (l : Laws m) (s : Shape) (e : Equation) (y : ℕ) where
       in
       (subst (Code m) (sym v_now) (l.sum_code right share rc share_code), v_now)
 
-  -- the code of its weight, by which the terms are added
-  pub by_code : (by : ℕ) → by ≡ weight m s e y → Code m by
-  by_code by is = subst (Code m) (sym is) weight_code
-
 -- a term's place is within the totals
 pub inside :
     (d : Layout) (h k p : ℕ) (xs : List ℕ) → Has (shape d) h k → p ≡ place (shape d) h k → length xs ≡ 32 → p < length xs

@@ -1,5 +1,5 @@
 -- Totals, one for each counter in the order head, then counter.
-use Rattle.std.specs.Prelude.{◌≡◌, ℕ, List, length, replicate, ◌≢◌, slice_index, refl}
+use Rattle.std.specs.Prelude.{◌≡◌, ℕ, List, replicate, ◌≢◌, slice_index, refl}
 use Rattle.scale.specs.Meaning.{Meaning, Code, summed}
 use Rattle.ties.specs.Layouts.{Shape, Has, place}
 use Rattle.ties.specs.Equations.{Equation}
@@ -20,7 +20,7 @@ abbrev pub nothing : Totals
 nothing = record { counters = replicate 32 0; right = 0; all = refl }
 
 abbrev pub AllCodes : Meaning → Totals → Type 0
-AllCodes m t = (length t.counters ≡ 32) × Codes m t.counters × Code m t.right
+AllCodes m t = Codes m t.counters × Code m t.right
 
 -- an equation is added: each total has grown by its share
 abbrev pub Added : Meaning → Shape → Equation → ℕ → Totals → Totals → Type 0

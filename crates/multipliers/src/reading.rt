@@ -41,13 +41,10 @@ pub fn add_nth<S: Scale>(
     requires codes { AllCodes (S.Scale.meaning scale.now) totals.old }
     ensures { let m = S.Scale.meaning scale.now in let s = shape layout.now in let e = nth_equation (equations file.now) i in MatchResult result (λ _. Sound m s e × AllCodes m totals.new × Added m s e multiplier totals.old totals.new) (λ g. (t : FaultOfTie) × (g ≡ CheckFault.Tie i t) × Faulty m s e t) }
 {
-    let Some(body) = file.tie(i) else {
-        return unreachable();
-    };
-    let tie = body.tie();
-    match tie.check(scale, layout) {
-        Ok(sound) => {
-            totals.add(&sound, multiplier);
+    let owned = file.tie(i).unwrap();
+    match owned.tie().check(scale, layout) {
+        Ok(tie) => {
+            totals.add(&tie, multiplier);
             Ok(())
         }
         Err(fault) => Err(CheckFault::Tie(i, fault)),
