@@ -2,6 +2,7 @@
 use Rattle.std.proofs.Common.{◌≡◌, ℕ, zero, suc, ◌+◌, ◌<◌, ◌≤◌, ◌⊎◌, List, [], ◌∷◌, ◌++◌, length, get_or, set, take, drop, replicate, sym, ap, ◌∙◌, subst, ap₂, inl, inr, arith, below_more, get_or-set_other, get_or-set_same}
 use native.Mathlib.Decide.{ℕ_discrete}
 use borrow.Rule.Slice.PartMut.{put_mid}
+use lib.Seq.{take-append_seam}
 use Rattle.std.proofs.lemmas.Bool.{cases_lt}
 use Rattle.std.proofs.lemmas.List.{get_or-drop, get_or_append_left, get_or_past, get_or_push, places}
 use Rattle.scale.specs.Meaning.{Meaning, Laws, Code, reading}
@@ -93,6 +94,10 @@ filled n from at k f old row there same inside long is = (
 
     behind : (i : ℕ) → from + n ≤ i → get_or (put_mid at k old row) i 0 ≡ get_or old i 0
     behind i high = grind (arith, places)
+
+-- a whole row is written over, and is as long as before
+pub written_back : (xs ys : List ℕ) → length ys ≡ length xs → take (length xs) (ys ++ drop (length ys) xs) ≡ ys
+written_back xs ys same = ap (λ n. take n (ys ++ drop (length ys) xs)) (sym same) ∙ take-append_seam ys (drop (length ys) xs)
 
 module _ (m : Meaning) (l : Laws m) where
   -- nothing is added where the factor is 0, and nothing changed where it is one

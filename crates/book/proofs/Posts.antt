@@ -16,7 +16,7 @@ use Rattle.book.specs.declared.standing.Standing.{Standing}
 use Rattle.book.specs.declared.table.Table.{Table}
 use Rattle.book.specs.Rows.{Codes}
 use Rattle.book.specs.Sheets.{Exact, generator_of, point_of}
-use Rattle.book.specs.Standing.{Built, Empty, Stands, Stepped, TakenIn, equation_of, ledger, nth_standing, nobody}
+use Rattle.book.specs.Standing.{Built, Stands, Stepped, TakenIn, equation_of, ledger, nth_standing, nobody}
 use Rattle.book.specs.Measures.{Measures}
 use Rattle.book.specs.Posting.{Accepted, Shown}
 use Rattle.book.proofs.Choosing.{least}
@@ -56,10 +56,6 @@ module _ (m : Meaning) (l : Laws m) (s : Shape) (t : Table) where
 
   abbrev xs : List ℕ
   xs = vec_items t.rows
-
-  -- an empty table stands
-  pub empty_stands : Empty m s t → Stands m s t
-  empty_stands empty = subst (λ (k : List Standing). Built m s k (length k) xs t.free) (sym empty.0) empty.1
 
   module _ (within : Within m s) (stands : Stands m s t) where
     pub stands_codes : Codes m xs × (length xs ≡ places s + places s * places s)

@@ -1,5 +1,5 @@
 -- What the standing ties settle of the value of one more tie.
-use Rattle.std.proofs.Common.{◌≡◌, ℕ, ◌+◌, ◌*◌, ◌<◌, ◌≤◌, min, List, vec_items, sym, ◌∙◌, subst, ap₂, arith, below_more}
+use Rattle.std.proofs.Common.{◌≡◌, ℕ, ◌+◌, ◌*◌, ◌<◌, ◌≤◌, min, List, length, get_or, vec_items, sym, ◌∙◌, subst, ap₂, arith, below_more}
 use Rattle.scale.specs.Meaning.{Meaning, Laws, digits}
 use Rattle.scale.proofs.Coded.{Coded, codes}
 use Rattle.scale.proofs.Ring.{Ring}
@@ -12,22 +12,16 @@ use Rattle.linear.proofs.Rows.{On, on_apart}
 use Rattle.linear.proofs.Valued.{codes_valued}
 use Rattle.book.specs.declared.reading.Reading.{Reading}
 use Rattle.book.specs.declared.table.Table.{Table}
+use Rattle.book.specs.Measures.{Totals}
 use Rattle.book.specs.Querying.{Least, Queried, Settles}
 use Rattle.book.specs.Sheets.{generator_of, point_of}
 use Rattle.book.specs.Standing.{Stands, ledger}
 use Rattle.book.proofs.Coding.{coded, coded_generator, flat_dot_is, on_sheet, row_assigns, total_dot_is}
 use Rattle.book.proofs.Posts.{stands_codes, stands_exact, stands_slides, stands_solved}
 
-module _ (m : Meaning) (s : Shape) (e : Equation) (xs : List ℕ) where
-  pub least_none : Least m s e xs 0 (depth s e)
-  least_none = record { most = omega arith; each = λ i h. absurd (omega arith); greatest = λ k h each. h }
-
-  -- one more generator
-  pub least_more :
-      (n v w : ℕ)
-      → w ≡ min v (m.level (total m e.terms (generator_of s xs n)))
-      → Least m s e xs n v
-      → Least m s e xs (n + 1) w
+module _ (m : Meaning) (d : ℕ) (xs : List ℕ) where
+  -- one number more
+  pub least_more : (n v w : ℕ) → w ≡ min v (m.level (get_or xs n 0)) → Least m d xs n v → Least m d xs (n + 1) w
   least_more n v w is before =
       record {
         most = omega (arith, before.most);
@@ -92,17 +86,25 @@ module _ (m : Meaning) (l : Laws m) (s : Shape) (t : Table) (within : Within m s
         (settles (slid m p m.one g) p moved solves)
 
     pub queried :
-        (r : Reading)
+        (r : Reading) (ts : List ℕ)
         → r.value ≡ value m e (point_of s xs)
-        → Least m s e xs (places s) r.settled
+        → Totals m s e xs ts
+        → Least m (depth s e) ts (length ts) r.settled
         → Queried m s (ledger t) xs e r
-    queried r is least =
+    queried r ts is totals least =
         let deep = (within e.target sound.target).1 in
         let most = least.most in
         record {
           sound = sound;
           at_point = is;
           most = most;
-          agree = apart r.settled (omega arith) least.each;
-          greatest = λ k h settles. least.greatest k h (each_total k settles);
+          agree =
+              apart r.settled (omega arith)
+              (λ i h. subst (λ (a : ℕ). r.settled ≤ m.level a) (totals.each i h) (least.each i (omega (arith, totals.count))));
+          greatest = λ k h settles.
+              least.greatest k h
+              (λ i b.
+              let inside : i < places s = omega (arith, totals.count) in
+              subst (λ (a : ℕ). k ≤ m.level a) (sym (totals.each i inside)) (each_total k settles i inside)
+              );
         }

@@ -1,5 +1,5 @@
 -- Where the rows of a table lie: the point at 0, generator i at n + i * n.
-use Rattle.std.proofs.Common.{◌≡◌, ℕ, zero, suc, ◌+◌, ◌-◌, ◌*◌, ◌<◌, ◌≤◌, ◌⊎◌, List, ◌++◌, length, get_or, take, drop, refl, sym, ap, ◌∙◌, ap₂, inl, inr, le_refl, suc-mul, zero-mul, mul-le-mul, add-one, arith}
+use Rattle.std.proofs.Common.{◌≡◌, ℕ, zero, suc, ◌+◌, ◌-◌, ◌*◌, ◌<◌, ◌≤◌, ◌⊎◌, List, ◌++◌, length, get_or, take, drop, refl, sym, ap, ◌∙◌, ap₂, inl, inr, le_refl, suc-mul, mul-le-mul, add-one, arith}
 use Rattle.std.proofs.lemmas.Bool.{cases_lt}
 use Rattle.std.proofs.lemmas.List.{drop-drop, drop_at, get_or-drop, get_or-take, length-append, length-drop, take_at, places as sizes}
 use Rattle.scale.specs.Meaning.{Meaning, summed}
@@ -67,10 +67,6 @@ pub record Walked (n : ℕ) (xs : List ℕ) (k size : ℕ) (left : List ℕ) : T
   pub most : k ≤ n
   pub each : size ≡ n
   pub rest : left ≡ drop (n + k * n) xs
-
-pub walk_none : (n : ℕ) (xs : List ℕ) (size : ℕ) (left : List ℕ) → size ≡ n → left ≡ drop n xs → Walked n xs 0 size left
-walk_none n xs size left each rest =
-    record { most = omega arith; each = each; rest = rest ∙ ap (λ a. drop a xs) (omega (arith, zero-mul n)) }
 
 module _ (d : Layout) (n : ℕ) (is : n ≡ places (shape d)) (xs : List ℕ)
     (rows : length xs ≡ places (shape d) + places (shape d) * places (shape d))

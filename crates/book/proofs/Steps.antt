@@ -1,5 +1,5 @@
 -- The pivot step, row by row.
-use Rattle.std.proofs.Common.{◌≡◌, ℕ, ◌+◌, ◌*◌, ◌<◌, ◌≤◌, List, get_or, sym, refl, ap, ◌∙◌, ap₂, inr, arith}
+use Rattle.std.proofs.Common.{◌≡◌, ℕ, ◌+◌, ◌*◌, ◌<◌, ◌≤◌, List, get_or, sym, ap, ◌∙◌, ap₂, inr, arith}
 use native.Mathlib.Decide.{ℕ_discrete}
 use Rattle.scale.specs.Meaning.{Meaning, power}
 use Rattle.book.specs.Turning.{Returned, Spread, Turned, generator, point}
@@ -27,15 +27,6 @@ module _ (m : Meaning) (n p : ℕ) (row : List ℕ) where
       pub ahead : (i j : ℕ) → k ≤ i → j < n → generator n new i j ≡ generator n old i j
       pub pivot : (j : ℕ) → j < n → generator n new p j ≡ generator n old p j
       pub first : (j : ℕ) → j < n → point new j ≡ point old j
-
-    pub spread_none : (xs : List ℕ) → Spreading 0 xs xs
-    spread_none xs =
-        record {
-          done = λ i j k d h. absurd (omega arith);
-          ahead = λ i j k w. refl;
-          pivot = λ j h. refl;
-          first = λ j h. refl;
-        }
 
     -- the pivot itself is passed over
     pub spread_pass : (k : ℕ) (old cur : List ℕ) → k ≡ p → Spreading k old cur → Spreading (k + 1) old cur

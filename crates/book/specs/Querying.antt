@@ -1,13 +1,13 @@
 -- Querying a book: the value of a tie that is not posted, and how much of it the standing ties settle.
-use Rattle.std.specs.Prelude.{◌≡◌, ℕ, ◌<◌, ◌≤◌, List}
+use Rattle.std.specs.Prelude.{◌≡◌, ℕ, ◌<◌, ◌≤◌, List, slice_index}
 use Rattle.scale.specs.Meaning.{Meaning}
 use Rattle.ties.specs.declared.fault.TieFault.{TieFault}
 use Rattle.ties.specs.Layouts.{Assignment, Shape, less, shape}
-use Rattle.ties.specs.Equations.{Equation, Solves, depth, total, value}
+use Rattle.ties.specs.Equations.{Equation, Solves, depth, value}
 use Rattle.ties.specs.Faults.{Faulty, Sound}
 use Rattle.book.specs.declared.reading.Reading.{Reading}
 use Rattle.book.specs.Drawing.{sheet_of}
-use Rattle.book.specs.Sheets.{generator_of, point_of}
+use Rattle.book.specs.Sheets.{point_of}
 use Rattle.book.specs.Held.{Held}
 use Rattle.book.specs.Standing.{ledger}
 
@@ -34,12 +34,8 @@ module _ {S : Type 0} (meaning : S → Meaning) (b : Held S) (e : Equation) wher
   abbrev pub QueryStopped : TieFault → Type 0
   QueryStopped = Faulty (meaning b.scale) (shape b.layout) e
 
--- v is the least among an equation's depth and the levels of its totals at the first n generators
-pub record Least (m : Meaning) (s : Shape) (e : Equation) (xs : List ℕ) (n v : ℕ) : Type 0 where
-  pub most : v ≤ depth s e
-  pub each : (i : ℕ) → i < n → v ≤ m.level (total m e.terms (generator_of s xs i))
-  pub greatest :
-      (k : ℕ)
-      → k ≤ depth s e
-      → ((i : ℕ) → i < n → k ≤ m.level (total m e.terms (generator_of s xs i)))
-      → k ≤ v
+-- v is the least among d and the levels of the first n numbers
+pub record Least (m : Meaning) (d : ℕ) (xs : List ℕ) (n v : ℕ) : Type 0 where
+  pub most : v ≤ d
+  pub each : (i : ℕ) → i < n → v ≤ m.level (slice_index xs i)
+  pub greatest : (k : ℕ) → k ≤ d → ((i : ℕ) → i < n → k ≤ m.level (slice_index xs i)) → k ≤ v

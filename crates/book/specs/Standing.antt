@@ -2,7 +2,7 @@
 use Rattle.std.specs.Prelude.{◌≡◌, ℕ, zero, suc, ◌+◌, ◌-◌, ◌*◌, ◌<◌, ◌≤◌, cond, List, [], ◌∷◌, ◌++◌, map, length, vec_items, vec_capacity, sum, ◌==◌, slice_index, slice_index_or}
 use Rattle.scale.specs.Meaning.{Meaning, Quotient, digits, power}
 use Rattle.ties.specs.Layouts.{Shape, Assignment, less, places}
-use Rattle.ties.specs.Equations.{Equation, depth, total}
+use Rattle.ties.specs.Equations.{Equation, depth, equation_in, total}
 use Rattle.ties.specs.Faults.{Sound}
 use Rattle.book.specs.declared.pivot.Pivot.{Pivot}
 use Rattle.book.specs.declared.standing.Standing.{Standing}
@@ -13,7 +13,7 @@ use Rattle.book.specs.Sheets.{generator_of, point_of}
 
 -- the equation of a standing tie
 abbrev pub equation_of : Standing → Equation
-equation_of k = record { target = k.target; right = k.right; terms = k.terms.items }
+equation_of k = equation_in k.tie
 
 -- an equation's terms at an assignment, and its right side, raised to full length
 abbrev pub raised : Meaning → Shape → Equation → Assignment → ℕ
@@ -65,9 +65,7 @@ pub record Stepped (m : Meaning) (s : Shape) (k : Standing) (old new : List ℕ)
 abbrev pub nobody : Standing
 nobody =
     record {
-      target = 0;
-      right = 0;
-      terms = record { items = [] };
+      tie = record { target = 0; right = 0; terms = record { items = [] } };
       pivot = record { number = 0; row = record { items = [] }; divisor = 0; quotients = record { items = [] } };
       shift = 0;
       free = 0;

@@ -1,6 +1,6 @@
 // The choice of a pivot among products: one that divides all of them, with the quotients.
 
-ghost use Rattle.std.specs.Prelude.{◌≡◌, ◌<◌, ◌≤◌, length, slice_index};
+ghost use Rattle.std.specs.Prelude.{◌≡◌, ◌≤◌, length, slice_index};
 ghost use Rattle.book.specs.Dividing.{Divides, Scanned};
 ghost use Rattle.book.specs.Rows.{Codes};
 ghost use Rattle.scale.specs.Meaning.{Code, Divided};
@@ -21,11 +21,10 @@ pub fn quotient_of<S: Scale>(scale: &S, a: u32, b: u32) -> Option<u32>
 }
 
 // The last product that the one chosen before it does not divide, and the quotients by it of those from it on.
-pub fn scan<S: Scale>(scale: &S, products: &[u32]) -> (usize, ArrayVec<u32, 32>)
-    requires codes { Codes (S.Scale.meaning scale.now) products.now }
-    requires some { 1 ≤ length products.now }
-    requires few { length products.now ≤ 32 }
-    ensures { Scanned (S.Scale.meaning scale.now) products.now (length products.now) result.0 result.1.items }
+pub fn scan<S: Scale>(scale: &S, products: &ArrayVec<u32, 32>) -> (usize, ArrayVec<u32, 32>)
+    requires codes { Codes (S.Scale.meaning scale.now) products.now.items }
+    requires some { 1 ≤ length products.now.items }
+    ensures { let ds = products.now.items in Scanned (S.Scale.meaning scale.now) ds (length ds) result.0 result.1.items }
 {
     let mut pivot = 0;
     let mut quotients = ArrayVec::new();
@@ -45,14 +44,13 @@ pub fn scan<S: Scale>(scale: &S, products: &[u32]) -> (usize, ArrayVec<u32, 32>)
 // The quotients of all products by the pivot's, where those from it on are found.
 pub fn complete<S: Scale>(
     scale: &S,
-    products: &[u32],
+    products: &ArrayVec<u32, 32>,
     pivot: usize,
     found: &[u32],
 ) -> ArrayVec<u32, 32>
-    requires codes { Codes (S.Scale.meaning scale.now) products.now }
-    requires few { length products.now ≤ 32 }
-    requires scanned { Scanned (S.Scale.meaning scale.now) products.now (length products.now) pivot found.now }
-    ensures { Divides (S.Scale.meaning scale.now) products.now (slice_index products.now pivot) result.items }
+    requires codes { Codes (S.Scale.meaning scale.now) products.now.items }
+    requires scanned { let ds = products.now.items in Scanned (S.Scale.meaning scale.now) ds (length ds) pivot found.now }
+    ensures { let ds = products.now.items in Divides (S.Scale.meaning scale.now) ds (slice_index ds pivot) result.items }
 {
     let mut quotients = ArrayVec::new();
     for product in &products[..pivot] {

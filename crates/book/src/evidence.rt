@@ -71,7 +71,7 @@ pub fn refute<S: Scale>(
         let tie = SoundTie {
             scale,
             layout,
-            tie: standing.tie(),
+            tie: standing.tie.tie(),
         };
         multipliers[k] = settle(&tie, &standing.pivot, &mut row);
     }

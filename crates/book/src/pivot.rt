@@ -1,6 +1,6 @@
 // The pivot step on the rows of a table: the point, and behind it the generators.
 
-ghost use Rattle.std.specs.Prelude.{◌≡◌, ℕ, ◌+◌, ◌-◌, ◌*◌, ◌<◌, ◌≤◌, length, slice_index};
+ghost use Rattle.std.specs.Prelude.{◌≡◌, ℕ, ◌+◌, ◌-◌, ◌*◌, ◌<◌, length, slice_index};
 ghost use Rattle.book.specs.Rows.{Codes};
 ghost use Rattle.book.specs.Turning.{Formed, Negatives, Returned, Spread, Turned, generator};
 ghost use Rattle.scale.specs.Meaning.{Code, digits};
@@ -27,67 +27,95 @@ impl Pivot {
     {
         scale.mark().length - scale.level(self.divisor)
     }
+}
 
+// A pivot with its scale, and by how much of it the point is moved.
+pub struct Step<'a, S: Scale> {
+    pub scale: &'a S,
+    pub pivot: &'a Pivot,
+    pub shift: u32,
+    pub ghost formed: { Formed (S.Scale.meaning scale.now) (length pivot.now.row.items) pivot.now },
+    pub ghost code: { Code (S.Scale.meaning scale.now) shift },
+}
+
+impl<S: Scale> Step<'_, S> {
     // Moves the point by `shift` times the pivot, clears the other generators, and multiplies the pivot by the step to
     // the power of the digits that are fixed.
-    pub fn turn<S: Scale>(&self, scale: &S, rows: &mut [u32], shift: u32)
-        requires formed { Formed (S.Scale.meaning scale.now) (length self.now.row.items) self.now }
-        requires codes { let m = S.Scale.meaning scale.now in Codes m rows.old × Code m shift }
-        requires size { let n = length self.now.row.items in length rows.old ≡ n + n * n }
-        requires row { let k = self.now in let n = length k.row.items in (j : ℕ) → j < n → slice_index k.row.items j ≡ generator n rows.old k.number j }
-        ensures codes { Codes (S.Scale.meaning scale.now) rows.new }
-        ensures turned { let m = S.Scale.meaning scale.now in let k = self.now in Turned m (length k.row.items) k.number k.quotients.items shift (digits m - m.level k.divisor) rows.old rows.new }
+    pub fn turn(&self, rows: &mut [u32])
+        requires codes { Codes (S.Scale.meaning self.now.scale.now) rows.old }
+        requires size { let n = length self.now.pivot.now.row.items in length rows.old ≡ n + n * n }
+        requires row { let k = self.now.pivot.now in let n = length k.row.items in (j : ℕ) → j < n → slice_index k.row.items j ≡ generator n rows.old k.number j }
+        ensures codes { Codes (S.Scale.meaning self.now.scale.now) rows.new }
+        ensures turned { let m = S.Scale.meaning self.now.scale.now in let k = self.now.pivot.now in Turned m (length k.row.items) k.number k.quotients.items self.now.shift (digits m - m.level k.divisor) rows.old rows.new }
     {
-        self.spread(scale, rows, shift, &negatives(scale, &self.quotients));
-        let n = self.row.len();
-        let at = n + self.number * n;
-        multiply(
-            scale,
-            &mut rows[at..at + n],
-            step_power(scale, self.fixed(scale)),
-        );
+        let Pivot {
+            number,
+            row,
+            quotients,
+            ..
+        } = self.pivot;
+        self.spread(rows, self.shift, &negatives(self.scale, quotients));
+        let n = row.len();
+        let at = n + number * n;
+        let power = step_power(self.scale, self.pivot.fixed(self.scale));
+        multiply(self.scale, &mut rows[at..at + n], power);
     }
 
     // Takes the step back: the pivot becomes the row that it was.
-    pub fn turn_back<S: Scale>(&self, scale: &S, rows: &mut [u32], shift: u32)
-        requires formed { Formed (S.Scale.meaning scale.now) (length self.now.row.items) self.now }
-        requires codes { let m = S.Scale.meaning scale.now in Codes m rows.old × Code m shift }
-        requires size { let n = length self.now.row.items in length rows.old ≡ n + n * n }
-        ensures codes { Codes (S.Scale.meaning scale.now) rows.new }
-        ensures returned { let k = self.now in Returned (S.Scale.meaning scale.now) (length k.row.items) k.number k.row.items k.quotients.items shift rows.old rows.new }
+    pub fn turn_back(&self, rows: &mut [u32])
+        requires codes { Codes (S.Scale.meaning self.now.scale.now) rows.old }
+        requires size { let n = length self.now.pivot.now.row.items in length rows.old ≡ n + n * n }
+        ensures codes { Codes (S.Scale.meaning self.now.scale.now) rows.new }
+        ensures returned { let k = self.now.pivot.now in Returned (S.Scale.meaning self.now.scale.now) (length k.row.items) k.number k.row.items k.quotients.items self.now.shift rows.old rows.new }
     {
-        let n = self.row.len();
-        let at = n + self.number * n;
-        rows[at..at + n].copy_from_slice(&self.row);
-        self.spread(scale, rows, scale.negative(shift), &self.quotients);
+        let Pivot {
+            number,
+            row,
+            quotients,
+            ..
+        } = self.pivot;
+        let n = row.len();
+        let at = n + number * n;
+        rows[at..at + n].copy_from_slice(row);
+        self.spread(rows, self.scale.negative(self.shift), quotients);
     }
 
-    // Adds to the point `shift` times the row, and to each generator but the pivot its factor times the row.
-    fn spread<S: Scale>(&self, scale: &S, rows: &mut [u32], shift: u32, factors: &[u32])
-        requires formed { Formed (S.Scale.meaning scale.now) (length self.now.row.items) self.now }
-        requires codes { let m = S.Scale.meaning scale.now in Codes m rows.old × Code m shift × Codes m factors.now }
-        requires size { let n = length self.now.row.items in (length rows.old ≡ n + n * n) × (length factors.now ≡ n) }
-        ensures codes { Codes (S.Scale.meaning scale.now) rows.new }
-        ensures spread { let k = self.now in Spread (S.Scale.meaning scale.now) (length k.row.items) k.number k.row.items shift factors.now rows.old rows.new }
+    // Adds to the point `by` times the pivot's row, and to each generator but the pivot its factor times the row.
+    fn spread(&self, rows: &mut [u32], by: u32, factors: &[u32])
+        requires codes { let m = S.Scale.meaning self.now.scale.now in Codes m rows.old × Code m by × Codes m factors.now }
+        requires size { let n = length self.now.pivot.now.row.items in (length rows.old ≡ n + n * n) × (length factors.now ≡ n) }
+        ensures codes { Codes (S.Scale.meaning self.now.scale.now) rows.new }
+        ensures spread { let k = self.now.pivot.now in Spread (S.Scale.meaning self.now.scale.now) (length k.row.items) k.number k.row.items by factors.now rows.old rows.new }
     {
-        let n = self.row.len();
-        add_multiple(scale, &mut rows[..n], &self.row, shift);
+        let Pivot { number, row, .. } = self.pivot;
+        let n = row.len();
+        add_multiple(self.scale, &mut rows[..n], row, by);
         for (i, factor) in factors.iter().enumerate() {
-            if i != self.number {
+            if i != *number {
                 let at = n + i * n;
-                add_multiple(scale, &mut rows[at..at + n], &self.row, *factor);
+                add_multiple(self.scale, &mut rows[at..at + n], row, *factor);
             }
         }
     }
 }
 
+// A derive would ask it of the scale too, which is only borrowed.
+impl<S: Scale> Drop for Step<'_, S> {
+    fn drop(self) {
+        let Step {
+            scale: _,
+            pivot: _,
+            shift: _,
+        } = self;
+    }
+}
+
 // The negatives of codes.
-fn negatives<S: Scale>(scale: &S, numbers: &[u32]) -> ArrayVec<u32, 32>
-    requires { length numbers.now ≤ 32 }
-    ensures { Negatives (S.Scale.meaning scale.now) numbers.now result.items }
+fn negatives<S: Scale>(scale: &S, numbers: &ArrayVec<u32, 32>) -> ArrayVec<u32, 32>
+    ensures { Negatives (S.Scale.meaning scale.now) numbers.now.items result.items }
 {
     let mut negatives = ArrayVec::new();
-    for number in numbers {
+    for number in numbers.iter() {
         negatives.push(scale.negative(*number));
     }
     negatives

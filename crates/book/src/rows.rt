@@ -1,11 +1,13 @@
 // Rows of codes.
 
-ghost use Rattle.std.specs.Prelude.{◌≡◌, ℕ, ◌<◌, ◌≤◌, length, slice_index};
+ghost use Rattle.std.specs.Prelude.{◌≡◌, ℕ, ◌+◌, ◌*◌, ◌<◌, ◌≤◌, length, slice_index};
+ghost use Rattle.book.specs.Measures.{Totals};
 ghost use Rattle.book.specs.Rows.{Codes, row_of};
 ghost use Rattle.scale.specs.Meaning.{Code};
-ghost use Rattle.ties.specs.Equations.{total};
+ghost use Rattle.ties.specs.Equations.{equation, total};
 ghost use Rattle.ties.specs.Layouts.{places, shape};
 
+use arrayvec::ArrayVec;
 use scale::Scale;
 use ties::sound::SoundTie;
 
@@ -21,6 +23,20 @@ pub fn total_at<S: Scale>(tie: &SoundTie<S>, row: &[u32]) -> u32
         total = tie.scale.sum(total, tie.scale.product(term.factor, code));
     }
     total
+}
+
+// The same at each generator.
+pub fn totals_at<S: Scale>(tie: &SoundTie<S>, rows: &[u32]) -> ArrayVec<u32, 32>
+    requires codes { Codes (S.Scale.meaning tie.now.scale.now) rows.now }
+    requires size { let n = places (shape tie.now.layout.now) in length rows.now ≡ n + n * n }
+    ensures { Totals (S.Scale.meaning tie.now.scale.now) (shape tie.now.layout.now) (equation tie.now.tie) rows.now result.items }
+{
+    let n = tie.layout.places();
+    let mut totals = ArrayVec::new();
+    for row in rows[n..].chunks_exact(n) {
+        totals.push(total_at(tie, row));
+    }
+    totals
 }
 
 // Adds `by` times a row to another.

@@ -1,25 +1,22 @@
-// How many digits of a tie's value the rows of a table settle.
+// How many digits of a tie's value are settled.
 
-ghost use Rattle.std.specs.Prelude.{◌≡◌, ◌+◌, ◌*◌, length};
+ghost use Rattle.std.specs.Prelude.{length};
 ghost use Rattle.book.specs.Querying.{Least};
 ghost use Rattle.book.specs.Rows.{Codes};
-ghost use Rattle.ties.specs.Equations.{equation};
-ghost use Rattle.ties.specs.Layouts.{places, shape};
+ghost use Rattle.ties.specs.Equations.{depth, equation};
+ghost use Rattle.ties.specs.Layouts.{shape};
 
-use crate::rows::total_at;
 use scale::Scale;
 use ties::sound::SoundTie;
 
 // The least level among the totals of the tie's terms at the generators, and the target's width where that is less.
-pub fn settled_digits<S: Scale>(tie: &SoundTie<S>, rows: &[u32]) -> u8
-    requires codes { Codes (S.Scale.meaning tie.now.scale.now) rows.now }
-    requires size { let n = places (shape tie.now.layout.now) in length rows.now ≡ n + n * n }
-    ensures { let s = shape tie.now.layout.now in Least (S.Scale.meaning tie.now.scale.now) s (equation tie.now.tie) rows.now (places s) result }
+pub fn settled_digits<S: Scale>(tie: &SoundTie<S>, totals: &[u32]) -> u8
+    requires { Codes (S.Scale.meaning tie.now.scale.now) totals.now }
+    ensures { Least (S.Scale.meaning tie.now.scale.now) (depth (shape tie.now.layout.now) (equation tie.now.tie)) totals.now (length totals.now) result }
 {
-    let n = tie.layout.places();
     let mut settled = tie.layout.width(tie.tie.target);
-    for row in rows[n..].chunks_exact(n) {
-        settled = settled.min(tie.scale.level(total_at(tie, row)));
+    for total in totals {
+        settled = settled.min(tie.scale.level(*total));
     }
     settled
 }

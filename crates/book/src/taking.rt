@@ -1,38 +1,39 @@
 // Taking a tie into a table.
 
-ghost use Rattle.std.specs.Prelude.{◌≡◌, ℕ, ◌+◌, ◌-◌, ◌*◌, ◌<◌, ◌≤◌, List, length, vec_len, vec_capacity};
+ghost use Rattle.std.specs.Prelude.{ℕ, ◌<◌, List, vec_len, vec_capacity};
 ghost use Rattle.book.specs.Measures.{Measures};
-ghost use Rattle.book.specs.Rows.{Codes};
-ghost use Rattle.book.specs.Standing.{GivenBack, Stepped, TakenIn};
-ghost use Rattle.scale.specs.Meaning.{Quotient, digits};
+ghost use Rattle.book.specs.Standing.{GivenBack, Stands, Stepped, TakenIn};
+ghost use Rattle.scale.specs.Meaning.{Quotient};
 ghost use Rattle.ties.specs.Equations.{equation};
-ghost use Rattle.ties.specs.Layouts.{Shape, places, shape};
+ghost use Rattle.ties.specs.Layouts.{Shape, Within, shape};
 
 use crate::measured::Measured;
+use crate::pivot::Step;
 use crate::standing::Standing;
 use crate::table::Table;
-use arrayvec::ArrayVec;
 use scale::Scale;
 use ties::sound::SoundTie;
 
 // Makes the pivot step of a tie, which moves the point by `shift` times the pivot, and answers the digits that it
 // fixes.
 pub fn take_in<S: Scale>(tie: &SoundTie<S>, table: &mut Table, measured: Measured, shift: u32) -> u8
-    requires codes { Codes (S.Scale.meaning tie.now.scale.now) table.old.rows.items }
-    requires size { let n = places (shape tie.now.layout.now) in length table.old.rows.items ≡ n + n * n }
+    requires within { Within (S.Scale.meaning tie.now.scale.now) (shape tie.now.layout.now) }
+    requires stands { Stands (S.Scale.meaning tie.now.scale.now) (shape tie.now.layout.now) table.old }
     requires measures { Measures (S.Scale.meaning tie.now.scale.now) (shape tie.now.layout.now) (equation tie.now.tie) table.old.rows.items measured }
     requires quotient { Quotient (S.Scale.meaning tie.now.scale.now) measured.rest measured.pivot.divisor shift }
     requires room { vec_len table.old.standing < vec_capacity table.old.standing }
-    requires free { let m = S.Scale.meaning tie.now.scale.now in digits m - m.level measured.pivot.divisor ≤ table.old.free }
     ensures { TakenIn (S.Scale.meaning tie.now.scale.now) (shape tie.now.layout.now) (equation tie.now.tie) table.old table.new result }
 {
     let Measured { pivot, rest: _ } = measured;
     let fixed = pivot.fixed(tie.scale);
-    pivot.turn(tie.scale, &mut table.rows, shift);
+    Step {
+        scale: tie.scale,
+        pivot: &pivot,
+        shift,
+    }
+    .turn(&mut table.rows);
     table.standing.push_reserved(Standing {
-        target: tie.tie.target,
-        right: tie.tie.right,
-        terms: ArrayVec::try_from(tie.tie.terms).unwrap(),
+        tie: tie.to_owned(),
         pivot,
         shift,
         free: table.free,
@@ -46,6 +47,11 @@ pub fn give_back<S: Scale>(scale: &S, table: &mut Table, last: &Standing)
     requires stepped { (s : Shape) × (xs : List ℕ) × (g : ℕ) × Stepped (S.Scale.meaning scale.now) s last.now xs table.old.rows.items g table.old.free }
     ensures { GivenBack (S.Scale.meaning scale.now) last.now table.old table.new }
 {
-    last.pivot.turn_back(scale, &mut table.rows, last.shift);
+    Step {
+        scale,
+        pivot: &last.pivot,
+        shift: last.shift,
+    }
+    .turn_back(&mut table.rows);
     table.free = last.free;
 }

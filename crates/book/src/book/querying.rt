@@ -4,7 +4,7 @@ ghost use Rattle.ties.specs.Equations.{equation};
 
 use crate::book::Book;
 use crate::reading::Reading;
-use crate::rows::total_at;
+use crate::rows::{total_at, totals_at};
 use crate::settling::settled_digits;
 use scale::Scale;
 use ties::fault::TieFault;
@@ -21,7 +21,7 @@ impl<S: Scale, P> Book<S, P> {
         let total = total_at(&sound, &rows[..self.layout.places()]);
         Ok(Reading {
             value: self.scale.sum(total, self.scale.negative(tie.right)),
-            settled: settled_digits(&sound, rows),
+            settled: settled_digits(&sound, &totals_at(&sound, rows)),
         })
     }
 }

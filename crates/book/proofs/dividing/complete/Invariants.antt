@@ -7,4 +7,4 @@ invariant-loop-product g l =
     let m = g.S.Scale.meaning l.scale in
     let qs = l.quotients.items in
     (length qs ≡ l.product-index)
-    × ((i : ℕ) → i < l.product-index → Quotient m (get_or l.products i 0) (get_or l.products l.pivot 0) (get_or qs i 0))
+    × ((i : ℕ) → i < l.product-index → Quotient m (get_or l.products.items i 0) (get_or l.products.items l.pivot 0) (get_or qs i 0))

@@ -1,21 +1,9 @@
-use Rattle.std.proofs.Common.{ℕ, ◌+◌, ◌*◌, List, length, vec_items, refl, sym, ap, ◌∙◌, subst, subst₂}
+use Rattle.std.proofs.Common.{ℕ, List, length, vec_items, refl, ap, ◌∙◌, subst₂}
 use Rattle.std.proofs.lemmas.List.{with_items_is}
 use Rattle.ties.specs.Layouts.{places}
-use Rattle.book.specs.Turning.{Formed, Returned}
+use Rattle.book.specs.Turning.{Returned}
 use Rattle.book.proofs.Returning.{returned_is}
 use Rattle.book.proofs.taking.give_back.Goals as goal
-
-pub turn_back-requires : goal.turn_back-requires
-turn_back-requires g c =
-    let m = g.S.Scale.meaning c.args.scale.now in
-    let k = c.args.last.now in
-    let step = c.requires.stepped.3 in
-    let n = step.pivots.formed.row in
-    record {
-      formed = subst (λ (n : ℕ). Formed m n k.pivot) (sym n) step.pivots.formed;
-      codes = (rw c.deref_mut.ensures.value step.codes, step.shift.0);
-      size = ap length c.deref_mut.ensures.value ∙ step.size ∙ ap (λ i. i + i * i) (sym n);
-    }
 
 pub returns : goal.returns
 returns g c =

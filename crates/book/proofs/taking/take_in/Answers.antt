@@ -1,30 +1,51 @@
-use Rattle.std.proofs.Common.{◌≡◌, ℕ, ◌+◌, ◌-◌, ◌≤◌, List, length, vec_items, sym, refl, ap, ◌∙◌, subst, subst₂, arith}
+use Rattle.std.proofs.Common.{◌≡◌, ℕ, ◌+◌, ◌-◌, ◌*◌, List, length, vec_items, sym, refl, ap, ◌∙◌, subst, subst₂, arith}
 use Rattle.std.proofs.lemmas.List.{with_items_is}
-use Rattle.std.proofs.lemmas.Result.{MatchResult-at_ok}
-use Rattle.std.proofs.lemmas.Grind.{common_steps}
 use Rattle.scale.specs.Meaning.{Quotient, digits}
 use Rattle.ties.specs.Equations.{Equation, equation}
 use Rattle.ties.specs.Faults.{Sound}
 use Rattle.ties.specs.Layouts.{places, shape}
-use Rattle.ties.proofs.Places.{few_terms_lem, layout_sized, places_most}
+use Rattle.book.specs.Rows.{Codes}
 use Rattle.book.specs.Turning.{Turned}
 use Rattle.book.specs.Standing.{Pivots, rest}
+use Rattle.book.proofs.Choosing.{quotient_level}
+use Rattle.book.proofs.Posts.{enough_free, stands_codes}
 use Rattle.book.proofs.taking.take_in.Goals as goal
 
-pub unwrap-requires : goal.unwrap-requires
-unwrap-requires g c =
-    let s = shape c.args.tie.now.layout.now in
-    let few = few_terms_lem s _ c.args.tie.now.sound.exist c.args.tie.now.sound.rise in
-    let most = places_most s (layout_sized c.args.tie.now.layout.now) in
-    let short : length c.args.tie.now.tie.terms.now ≤ 32 = omega arith in
-    grind (arith, common_steps)
+pub turn-requires-clause-codes : goal.turn-requires-clause-codes
+turn-requires-clause-codes g c =
+    let tie = c.args.tie.now in
+    let m = g.S.Scale.meaning tie.scale.now in
+    let l = g.met.S.Scale.lawful tie.scale.now in
+    subst (Codes m) (sym c.deref_mut.ensures.value)
+    (stands_codes m l (shape tie.layout.now) c.args.table.now c.requires.within c.requires.stands).0
+
+pub turn-requires-clause-size : goal.turn-requires-clause-size
+turn-requires-clause-size g c =
+    let tie = c.args.tie.now in
+    let m = g.S.Scale.meaning tie.scale.now in
+    let l = g.met.S.Scale.lawful tie.scale.now in
+    ap length c.deref_mut.ensures.value
+    ∙ (stands_codes m l (shape tie.layout.now) c.args.table.now c.requires.within c.requires.stands).1
+    ∙ ap (λ n. n + n * n) (sym c.requires.measures.pivots.formed.row)
+
+pub overflow_sub-table : goal.overflow_sub-table
+overflow_sub-table g c =
+    let tie = c.args.tie.now in
+    let m = g.S.Scale.meaning tie.scale.now in
+    let l = g.met.S.Scale.lawful tie.scale.now in
+    let enough =
+    enough_free m l (shape tie.layout.now) c.args.table.now c.requires.within c.requires.stands (equation tie.tie)
+    tie.sound c.args.measured c.requires.measures
+    (quotient_level m l _ _ c.args.shift c.requires.measures.pivots.formed.divisor c.requires.quotient)
+    in
+    omega (arith, enough, c.from.ensures, c.fixed-fixed.ensures)
 
 pub returns : goal.returns
 returns g c =
-    let m = g.S.Scale.meaning c.args.tie.now.scale.now in
-    let l = g.met.S.Scale.lawful c.args.tie.now.scale.now in
-    let s = shape c.args.tie.now.layout.now in
-    let e = equation c.args.tie.now.tie in
+    let tie = c.args.tie.now in
+    let m = g.S.Scale.meaning tie.scale.now in
+    let s = shape tie.layout.now in
+    let e = equation tie.tie in
     let k = c.args.measured.pivot in
     let old = c.args.table.now in
     let xs = vec_items old.rows in
@@ -32,24 +53,22 @@ returns g c =
     let pivots = c.requires.measures.pivots in
     let fixed = c.fixed-fixed.result in
     let fixed_is : fixed ≡ digits m - m.level k.divisor = c.fixed-fixed.ensures in
-    let fell : old.free - c.from.result + fixed ≡ old.free = omega (arith, c.requires.free, c.from.ensures) in
+    let fell : old.free - c.from.result + fixed ≡ old.free = omega (arith, overflow_sub-table g c.before, c.from.ensures) in
     let turned : Turned m (places s) k.number k.quotients.items c.args.shift (digits m - m.level k.divisor) xs new =
     subst₂ (λ (n : ℕ) (ys : List ℕ). Turned m n k.number k.quotients.items c.args.shift (digits m - m.level k.divisor) ys new)
     pivots.formed.row c.deref_mut.ensures.value c.turn.ensures.turned
     in
-    let kept : c.unwrap.result.items ≡ e.terms = (MatchResult-at_ok _ _ _ c.unwrap.ensures c.try_from.ensures).0 in
-    let same : record { target = e.target; right = e.right; terms = c.unwrap.result.items } ≡ e =
-    ap (λ ts. record { target = e.target; right = e.right; terms = ts }) kept
-    in
+    let same = c.to_owned.ensures in
     let rows = with_items_is old.rows new (c.turn.auto.rows ∙ c.deref_mut.ensures.len) in
+    let long = (stands_codes m (g.met.S.Scale.lawful tie.scale.now) s old c.requires.within c.requires.stands).1 in
     record {
       last = _;
       equation = same;
       standing = c.push_reserved.ensures.items;
       stepped =
           record {
-            sound = subst (Sound m s) (sym same) c.args.tie.now.sound;
-            size = ap length rows ∙ c.turn.auto.rows ∙ ap length c.deref_mut.ensures.value ∙ c.requires.size;
+            sound = subst (Sound m s) (sym same) tie.sound;
+            size = ap length rows ∙ c.turn.auto.rows ∙ ap length c.deref_mut.ensures.value ∙ long;
             codes = rw rows c.turn.ensures.codes;
             pivots = subst (λ (q : Equation). Pivots m s q xs k) (sym same) pivots;
             shift =

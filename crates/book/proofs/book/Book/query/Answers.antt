@@ -26,8 +26,8 @@ total_at-total-requires g c =
       whole = rw c.in_ok-sound.ensures.3 (omega (arith, long));
     }
 
-pub settled_digits-requires : goal.settled_digits-requires
-settled_digits-requires g c =
+pub totals_at-requires : goal.totals_at-requires
+totals_at-requires g c =
     let rows = rows_sheet g.met.S.Scale.lawful c.self.invariant _ c.deref-rows.ensures.value in
     record { codes = rw c.in_ok-sound.ensures.2 rows.0; size = rw c.in_ok-sound.ensures.3 rows.1 }
 
@@ -41,7 +41,8 @@ returns g c =
     let checked = c.in_ok-sound.ensures in
     let sound = checked.0 in
     let reached = rw (checked.1, checked.2, checked.3) at c.total_at-total.ensures in
-    let settled = rw (checked.1, checked.2, checked.3) at c.settled_digits.ensures in
+    let totals = rw (checked.1, checked.2, checked.3, c.deref-rows.ensures.value) at c.totals_at.ensures in
+    let settled = rw (checked.1, checked.2, checked.3, c.deref.ensures.0) at c.settled_digits.ensures in
     let total_is : c.total_at-total.result ≡ total m e.terms (point_of s (vec_items b.table.rows)) =
     rw (← c.deref-rows.ensures.value)
     (reached.1 ∙ total_cut m s e.terms c.deref-rows.result.now 0 0 _ sound.exist refl c.places.ensures.0)
@@ -49,5 +50,5 @@ returns g c =
     let away = negative_is m l e.right c.negative.result (right_code m l s e sound) c.negative.ensures in
     let sum = sum_is m l c.total_at-total.result c.negative.result c.sum.result reached.0 away.0 c.sum.ensures in
     rw (← c.self.view_is)
-    (queried m l s b.table c.self.invariant.within c.self.invariant.stands e sound _ (sum.1 ∙ ap₂ m.sum total_is away.1)
-    (rw (← c.deref-rows.ensures.value) settled))
+    (queried m l s b.table c.self.invariant.within c.self.invariant.stands e sound _ _
+    (sum.1 ∙ ap₂ m.sum total_is away.1) totals settled)

@@ -1,11 +1,11 @@
-use Rattle.std.proofs.Common.{◌<◌, [], ◌∷◌, length, vec_items, refl, arith, length-append}
+use Rattle.std.proofs.Common.{◌<◌, [], ◌∷◌, length, vec_items, arith, length-append}
 use Rattle.ties.specs.Equations.{equation}
 use Rattle.ties.specs.Layouts.{shape}
 use Rattle.book.specs.Measures.{Measures}
 use Rattle.book.specs.Standing.{ledger}
 use Rattle.book.proofs.Books.{ledger_length, rows_sheet}
 use Rattle.book.proofs.Coding.{rest_code}
-use Rattle.book.proofs.Posts.{accepted, contradictory, enough_free, shown, taken_stands}
+use Rattle.book.proofs.Posts.{accepted, contradictory, shown, taken_stands}
 use Rattle.book.proofs.book.posting.Book+S+Open.post.Goals as goal
 
 pub measure-measured-requires : goal.measure-measured-requires
@@ -23,25 +23,6 @@ quotient_of-requires g c =
       rw meas.missing (rest_code _ l (shape b.layout) (equation c.args.tie.now) checked.0 _ rows.0),
       meas.pivots.formed.divisor,
     )
-
-pub take_in-requires-clause-codes : goal.take_in-requires-clause-codes
-take_in-requires-clause-codes g c = rw c.in_ok-tie.ensures.2 (rows_sheet g.met.S.Scale.lawful c.self.invariant _ refl).0
-
-pub take_in-requires-clause-size : goal.take_in-requires-clause-size
-take_in-requires-clause-size g c = rw c.in_ok-tie.ensures.3 (rows_sheet g.met.S.Scale.lawful c.self.invariant _ refl).1
-
-pub take_in-requires-clause-free : goal.take_in-requires-clause-free
-take_in-requires-clause-free g c =
-    let b = c.self.inside in
-    let m = g.S.Scale.meaning b.scale in
-    let s = shape b.layout in
-    let e = equation c.args.tie.now in
-    let d = c.measure-measured.result in
-    let checked = c.in_ok-tie.ensures in
-    let meas : Measures m s e (vec_items b.table.rows) d =
-    rw (checked.1, checked.2, checked.3, c.deref.ensures.value) at c.measure-measured.ensures
-    in
-    rw checked.2 (enough_free m (g.met.S.Scale.lawful b.scale) s b.table c.self.invariant.within c.self.invariant.stands e checked.0 d meas c.in-Some.ensures.0)
 
 pub invariant_of-self : goal.invariant_of-self
 invariant_of-self g c =

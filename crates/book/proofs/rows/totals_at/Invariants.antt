@@ -1,12 +1,11 @@
 use Rattle.std.proofs.Common.{◌≡◌, ℕ, ◌<◌, length, get_or}
 use Rattle.std.specs.Slice.Iter.{chunks_exact_rest, chunks_exact_size}
-use Rattle.ties.specs.Equations.{equation}
+use Rattle.ties.specs.Equations.{total}
 use Rattle.ties.specs.Layouts.{shape}
 use Rattle.book.specs.Rows.{Codes}
 use Rattle.book.specs.Sheets.{generator_of}
-use Rattle.book.specs.Standing.{raised}
 use Rattle.book.proofs.Spots.{Walked}
-use Rattle.book.proofs.measuring.multiply_out.Given as goal
+use Rattle.book.proofs.rows.totals_at.Given as goal
 
 abbrev pub invariant-loop-row : goal.invariant-loop-row
 invariant-loop-row g l =
@@ -14,8 +13,8 @@ invariant-loop-row g l =
     let s = shape l.tie.layout.now in
     let k = length l.yielded in
     let it = l.row-iterator in
-    let products = l.products.items in
+    let totals = l.totals.items in
     Walked l.n l.rows k (chunks_exact_size it) (chunks_exact_rest it)
-    × (length products ≡ k)
-    × Codes m products
-    × ((i : ℕ) → i < k → get_or products i 0 ≡ raised m s (equation l.tie.tie) (generator_of s l.rows i))
+    × (length totals ≡ k)
+    × Codes m totals
+    × ((i : ℕ) → i < k → get_or totals i 0 ≡ total m l.tie.tie.terms.now (generator_of s l.rows i))

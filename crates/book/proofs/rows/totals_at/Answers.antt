@@ -1,15 +1,12 @@
-use Rattle.std.proofs.Common.{◌≡◌, ℕ, ◌+◌, ◌*◌, length, ap, ap₂, ◌∙◌, sym, subst, arith}
+use Rattle.std.proofs.Common.{◌≡◌, ℕ, ◌+◌, ◌*◌, length, ap, ◌∙◌, sym, subst, arith}
 use Rattle.std.proofs.lemmas.List.{length_push}
-use Rattle.scale.specs.Meaning.{Code}
-use Rattle.scale.proofs.Codes.{power_code}
-use Rattle.ties.specs.Equations.{equation, total}
+use Rattle.ties.specs.Equations.{total}
 use Rattle.ties.specs.Layouts.{shape}
 use Rattle.book.specs.Rows.{Codes, row_of}
 use Rattle.book.specs.Sheets.{generator_of}
-use Rattle.book.specs.Standing.{raised}
-use Rattle.book.proofs.Filling.{holds_push, part_codes, product_is, push_codes}
+use Rattle.book.proofs.Filling.{holds_push, part_codes, push_codes}
 use Rattle.book.proofs.Spots.{total_cut, walk_end, walk_next}
-use Rattle.book.proofs.measuring.multiply_out.Goals as goal
+use Rattle.book.proofs.rows.totals_at.Goals as goal
 
 pub total_at-requires-clause-codes : goal.total_at-requires-clause-codes
 total_at-requires-clause-codes g c =
@@ -26,29 +23,21 @@ loop-row-preserved g c =
     let m = g.S.Scale.meaning tie.scale.now in
     let l = g.met.S.Scale.lawful tie.scale.now in
     let s = shape tie.layout.now in
-    let e = equation tie.tie in
     let rows = c.args.rows.now in
     let n = c.places-n.result in
     let is = c.places-n.ensures.0 in
     let steps = c.in-Some.ensures.steps in
     let k : ℕ = length c.loop-row.yielded in
-    let cur = c.loop-row.products.items in
+    let cur = c.loop-row.totals.items in
     let next = walk_next tie.layout.now n is rows c.requires.size _ _ _ c.loop-row.invariant.0 _ c.in-Some.row.now _ steps.0 steps.1.0 steps.1.1 in
-    let here : total m e.terms (row_of s c.in-Some.row.now) ≡ total m e.terms (generator_of s rows k) =
-    rw next.0 (total_cut m s e.terms rows _ _ _ tie.sound.exist (ap (λ n. n + k * n) is) is)
-    in
-    let raise_code : Code m c.raise-raise.result = subst (Code m) (sym c.raise-raise.ensures) (power_code m l _) in
-    let done =
-    product_is m l c.raise-raise.result c.total_at.result c.product.result raise_code c.total_at.ensures.0 c.product.ensures
-    in
-    let product : c.product.result ≡ raised m s e (generator_of s rows k) =
-    done.1 ∙ ap₂ m.product c.raise-raise.ensures (c.total_at.ensures.1 ∙ here)
+    let here : total m tie.tie.terms.now (row_of s c.in-Some.row.now) ≡ total m tie.tie.terms.now (generator_of s rows k) =
+    rw next.0 (total_cut m s tie.tie.terms.now rows _ _ _ tie.sound.exist (ap (λ n. n + k * n) is) is)
     in
     rw (length_push c.loop-row.yielded c.in-Some.row) (
       next.1,
       c.push.ensures.len ∙ ap (λ j. j + 1) c.loop-row.invariant.1,
-      subst (Codes m) (sym c.push.ensures.items) (push_codes m l cur _ c.loop-row.invariant.2 done.0),
-      holds_push k _ cur _ c.product.result c.push.ensures.items c.loop-row.invariant.1 product c.loop-row.invariant.3,
+      subst (Codes m) (sym c.push.ensures.items) (push_codes m l cur _ c.loop-row.invariant.2 c.total_at.ensures.0),
+      holds_push k _ cur _ c.total_at.result c.push.ensures.items c.loop-row.invariant.1 (c.total_at.ensures.1 ∙ here) c.loop-row.invariant.3,
     )
 
 pub returns : goal.returns
@@ -61,5 +50,5 @@ returns g c =
     record {
       codes = c.loop-row.invariant.2;
       count = c.loop-row.invariant.1 ∙ end;
-      products = λ i h. c.loop-row.invariant.3 i (omega (arith, end));
+      each = λ i h. c.loop-row.invariant.3 i (omega (arith, end));
     }
