@@ -1,34 +1,9 @@
 -- The tie that states that a counter's code is 0 is sound, and how places and counters go together.
-use Rattle.std.proofs.Common.{◌≡◌, ℕ, zero, suc, ◌+◌, ◌*◌, ◌/◌, ◌%◌, ◌<◌, List, length, get_or, set, sym, subst, arith, get_or-set_other, get_or-set_same, below_more}
+use Rattle.std.proofs.Common.{◌≡◌, ℕ, ◌+◌, ◌*◌, ◌/◌, ◌%◌, ◌<◌, List, length, get_or, set, sym, subst, arith, get_or-set_other, get_or-set_same, below_more}
 use lib.Arith.{digits_div, digits_mod}
-use Rattle.scale.specs.Meaning.{Laws, Meaning}
-use Rattle.ties.specs.Faults.{Coded, Exists, Fine, Sound}
 use Rattle.ties.specs.declared.layout.Layout.{Layout}
-use Rattle.ties.specs.Layouts.{Has, Shape, counters_of, place, places, shape, width_of}
+use Rattle.ties.specs.Layouts.{Has, Shape, counters_of, place, places, shape}
 use Rattle.ties.proofs.Places.{layout_sized, place_below, place_counter, places_most}
-use Rattle.report.specs.Reported.{own}
-
-pub own_sound : (m : Meaning) → Laws m → (s : Shape) (h c : ℕ) → Has s h c → Sound m s (own m h c)
-own_sound m laws s h c has =
-    record {
-      target = has.1;
-      exist = exist;
-      rise = λ i below above. absurd (omega (arith, below, above));
-      codes = codes;
-      fine = fine;
-    }
-  where
-    exist : (i : ℕ) → i < 1 → Exists s (own m h c).terms i
-    exist zero k = has
-    exist (suc i) k = absurd (omega (arith, k))
-
-    codes : (i : ℕ) → i < 2 → Coded m (own m h c).terms 0 i
-    codes zero k = (λ _. laws.one_code, λ e. absurd (omega (arith, e)))
-    codes (suc i) k = (λ k'. absurd (omega (arith, k')), λ _. omega (arith, laws.one_code))
-
-    fine : (i : ℕ) → i < 1 → Fine m s (width_of s c) (own m h c).terms i
-    fine zero k = omega arith
-    fine (suc i) k = absurd (omega (arith, k))
 
 -- a place below all of them is a counter's
 pub at_place :

@@ -52,11 +52,9 @@ fn post_nth<S: Scale>(book: &mut Book<S, Open>, file: &TieFile, i: usize) -> Res
     ensures answer { PostedTo S.Scale.meaning book.old (nth_equation (equations file.now) i) (replicate 64 0) result }
     ensures book { Posted S.Scale.meaning book.old (nth_equation (equations file.now) i) result book.new }
 {
-    let Some(body) = file.tie(i) else {
-        return unreachable();
-    };
+    let tie = file.tie(i).unwrap();
     let mut multipliers = [0; 64];
-    book.post(&body.tie(), &mut multipliers)
+    book.post(&tie.tie(), &mut multipliers)
 }
 
 // How many digits the standing ties leave free.
@@ -65,8 +63,5 @@ fn free_digits<S: Scale>(book: &Book<S, Open>) -> u16
 {
     // a sheet has 32 × 33 numbers at most
     let mut sheet = [0; 1056];
-    match book.sheet(&mut sheet) {
-        Ok(free) => free,
-        Err(_) => unreachable(),
-    }
+    book.sheet(&mut sheet).unwrap()
 }

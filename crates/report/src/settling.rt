@@ -39,8 +39,5 @@ fn settled_at<S: Scale>(book: &Book<S, Open>, head: u8, counter: u8) -> u8
         right: 0,
         terms: &terms,
     };
-    match book.query(&tie) {
-        Ok(reading) => reading.settled,
-        Err(_) => unreachable(),
-    }
+    book.query(&tie).unwrap().settled
 }

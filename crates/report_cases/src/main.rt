@@ -5,7 +5,7 @@
 
 ghost use Rattle.std.specs.Prelude.{◌<◌};
 
-use anyhow::anyhow;
+use anyhow::Context;
 use report::lines::Lines;
 use report::report;
 
@@ -21,10 +21,7 @@ fn main(rt: HostRuntime) -> anyhow::Result<()> {
 
 fn print_report(rt: &HostRuntime, hex: &str) -> anyhow::Result<()> {
     let file = bytes_of(rt, hex)?;
-    let Some(lines) = Lines::new(report(rt.alloc(), &file)) else {
-        return Err(anyhow!("no memory for the book"));
-    };
-    rt.println(lines)?;
+    rt.println(Lines::new(report(rt.alloc(), &file)).context("no memory for the book")?)?;
     Ok(())
 }
 

@@ -5,7 +5,7 @@
 
 #![tactic(auto)]
 
-use anyhow::anyhow;
+use anyhow::Context;
 use report::lines::Lines;
 use report::report;
 use std::io::Read;
@@ -26,9 +26,6 @@ fn main(rt: HostRuntime) -> anyhow::Result<ExitCode> {
 fn run(rt: &HostRuntime) -> anyhow::Result<()> {
     let mut file = Vec::new(rt.alloc());
     rt.stdin().take(ENOUGH_BYTES).read_to_end(&mut file)?;
-    let Some(lines) = Lines::new(report(rt.alloc(), &file)) else {
-        return Err(anyhow!("no memory for the book"));
-    };
-    rt.println(lines)?;
+    rt.println(Lines::new(report(rt.alloc(), &file)).context("no memory for the book")?)?;
     Ok(())
 }

@@ -1,24 +1,9 @@
 use Rattle.std.proofs.Common.{◌≡◌, ℕ, ◌*◌, ◌/◌, ◌%◌, get_or, ◌∙◌, ap₂, arith, length-set}
 use Rattle.ties.specs.Layouts.{counters_of, shape}
-use Rattle.ties.proofs.Places.{layout_sized}
 use Rattle.book.specs.Standing.{ledger}
 use Rattle.report.specs.Reported.{SettledAt}
 use Rattle.report.proofs.Own.{at_place, by_counter, each_more}
 use Rattle.report.proofs.settling.settled_digits.Goals as goal
-
-pub overflow_cast-head : goal.overflow_cast-head
-overflow_cast-head g c =
-    let layout = c.args.book.now.layout in
-    let at = at_place layout (c.from.ensures ∙ c.heads.ensures) (c.from-counters.ensures ∙ c.counters.ensures) c.loop-i-test.true in
-    omega (arith, at.1.0, (layout_sized layout).1)
-
-pub settled_at-requires : goal.settled_at-requires
-settled_at-requires g c =
-    (at_place c.args.book.now.layout (c.from.ensures ∙ c.heads.ensures) (c.from-counters.ensures ∙ c.counters.ensures) c.loop-i-test.true).1
-
-pub bounds-settled-i : goal.bounds-settled-i
-bounds-settled-i g c =
-    (at_place c.args.book.now.layout (c.from.ensures ∙ c.heads.ensures) (c.from-counters.ensures ∙ c.counters.ensures) c.loop-i-test.true).0
 
 pub loop-i-preserved : goal.loop-i-preserved
 loop-i-preserved g c =
