@@ -30,9 +30,7 @@ fn main(rt: HostRuntime) -> Result<ExitCode, Failure> {
 fn run(rt: &HostRuntime) -> Result<(), Failure> {
     let mut words = env::args(rt)?;
     let _program = words.next();
-    let Some(path) = words.next() else {
-        return Err(Failure::Usage);
-    };
+    let path = words.next().ok_or(Failure::Usage)?;
     let mut multipliers = Vec::new(rt.alloc());
     for word in words {
         multipliers.push(multiplier(rt, word.as_str())?)?;
