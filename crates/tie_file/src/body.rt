@@ -42,11 +42,7 @@ pub(crate) fn count_terms(bytes: usize) -> Option<usize>
     ensures { MatchOption result (TieLength bytes → ⊥) (λ t. (t ≤ 32) × (bytes ≡ 5 + 6 * t)) }
 {
     let terms = bytes.checked_sub(5)? / 6;
-    if terms <= 32 && bytes == 5 + 6 * terms {
-        Some(terms)
-    } else {
-        None
-    }
+    (terms <= 32 && bytes == 5 + 6 * terms).then_some(terms)
 }
 
 // 32 bits at a place, low byte first.

@@ -67,10 +67,9 @@ impl Contents<'_> {
         requires inside { i < entries self.now.file.now }
         ensures { let f = self.now.file.now in MatchBool result (BodyFits f i) (BodyFits f i → ⊥) }
     {
-        match nth_entry(self.file, i) {
-            Some(Entry::Layout(body)) => layout_fits(body),
-            Some(Entry::Tie(body)) => count_terms(body.len()).is_some(),
-            None => false,
+        match nth_entry(self.file, i).unwrap() {
+            Entry::Layout(body) => layout_fits(body),
+            Entry::Tie(body) => count_terms(body.len()).is_some(),
         }
     }
 }
