@@ -37,10 +37,6 @@ use Rattle.book.proofs.Coding.{
   total_code,
 }
 
--- what holds of all of a list and of one more
-all_parts : {X : Type 0} (P : X → Type 0) (xs : List X) (x : X) → All P (xs ++ (x ∷ [])) → All P xs × P x
-all_parts P xs x all = All-pop P (xs ++ (x ∷ [])) xs (Some x) refl all
-
 -- the equations of the first n standing ties
 abbrev pub ledger_of : List Standing → ℕ → List Equation
 ledger_of ks n = map equation_of (take n ks)
@@ -112,7 +108,7 @@ module _ (m : Meaning) (l : Laws m) (s : Shape) (within : Within m s) where
       let before = on_sheet m l s old all x gives in
       let after = on_sheet m l s new step.codes x gives in (
         λ met.
-            let parts = all_parts (λ e. Meets m s e x) es e met in
+            let parts = All-pop (λ e. Meets m s e x) _ es (Some e) refl met in
             after.1 (turn.0 (before.0 ((exact x gives).0 parts.0), meets.0 parts.1)),
         λ on.
             let both = turn.1 (after.0 on) in
@@ -205,7 +201,7 @@ module _ (m : Meaning) (l : Laws m) (s : Shape) (within : Within m s) where
             → m.level (rest m s e xs) < m.level (raised m s e (generator_of s xs p))
             → Contradictory m s (ledger_of ks n ++ (e ∷ []))
         refused p least low x solves =
-            let parts = all_parts (λ e. Meets m s e x) (ledger_of ks n) e solves.1 in
+            let parts = All-pop (λ e. Meets m s e x) _ (ledger_of ks n) (Some e) refl solves.1 in
             let own = product_is p in
             insoluble (codes_valued m l) (places s) (row_of m l s e) (coded m l xs 0) (flat m l s x)
             (coded_generator m l s xs) p (right_of m l s e)

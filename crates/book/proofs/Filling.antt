@@ -1,6 +1,5 @@
 -- Rows that are filled place by place.
 use Rattle.std.proofs.Common.{◌≡◌, ℕ, zero, suc, ◌+◌, ◌<◌, ◌≤◌, ◌⊎◌, List, [], ◌∷◌, ◌++◌, length, get_or, set, take, drop, replicate, sym, ap, ◌∙◌, subst, ap₂, inl, inr, arith, below_more, get_or-set_other, get_or-set_same}
-use native.Mathlib.Decide.{ℕ_discrete}
 use borrow.Rule.Slice.PartMut.{put_mid}
 use lib.Seq.{take-append_seam}
 use Rattle.std.proofs.lemmas.Bool.{cases_lt}
@@ -13,20 +12,19 @@ use Rattle.book.specs.Rows.{Codes}
 use Rattle.book.specs.Turning.{Negatives}
 use Rattle.book.proofs.Spots.{cut_at, cut_long}
 
--- a list that holds f below n, and one place more
-pub holds_more :
-    (n : ℕ) (f : ℕ → ℕ) (cur : List ℕ) (v : ℕ)
+-- what is said of each place below n is said of one place more that is written
+pub each_more :
+    (P : ℕ → ℕ → Type 0) (n : ℕ) (cur : List ℕ) (v : ℕ)
     → n < length cur
-    → v ≡ f n
-    → ((j : ℕ) → j < n → get_or cur j 0 ≡ f j)
+    → P n v
+    → ((j : ℕ) → j < n → P j (get_or cur j 0))
     → (j : ℕ)
     → j < n + 1
-    → get_or (set cur n v) j 0 ≡ f j
-holds_more n f cur v inside is before j h = go (ℕ_discrete j n)
-  where
-    go : Dec (j ≡ n) → get_or (set cur n v) j 0 ≡ f j
-    go (yes e) = ap (λ i. get_or (set cur n v) i 0) e ∙ get_or-set_same cur n v 0 inside ∙ is ∙ ap f (sym e)
-    go (no d) = get_or-set_other cur n j v 0 d ∙ before j (omega arith)
+    → P j (get_or (set cur n v) j 0)
+each_more P n cur v inside here before =
+    below_more (λ j. P j (get_or (set cur n v) j 0)) n
+    (λ j h. subst (P j) (sym (get_or-set_other cur n j v 0 (λ e. omega (arith, e, h)))) (before j h))
+    (subst (P n) (sym (get_or-set_same cur n v 0 inside)) here)
 
 -- a list that holds f, and one number more at its end
 pub holds_push :
@@ -55,7 +53,7 @@ pub written_more :
     → Written n f old cur
     → Written (n + 1) f old (set cur n v)
 written_more n f old cur v inside is before = (
-  holds_more n f cur v inside is before.0,
+  each_more (λ j a. a ≡ f j) n cur v inside is before.0,
   λ j h. get_or-set_other cur n j v 0 (λ e. omega arith) ∙ before.1 j (omega arith),
 )
 

@@ -4,8 +4,9 @@ mod Coding
 mod Counted
 mod Exactness
 pub mod Faultless
-mod Filling
+pub mod Filling
 mod Posts
+mod Loads
 mod Queries
 mod Refuting
 mod Returning

@@ -9,6 +9,7 @@ pub mod Held
 pub mod Faults
 pub mod Opening
 pub mod Posting
+pub mod Loading
 pub mod Drawing
 pub mod Withdrawing
 pub mod Querying

@@ -57,6 +57,7 @@ impl<S: Scale, P> Book<S, P> {
 
 mod closing;
 mod drawing;
+mod loading;
 mod opening;
 mod posting;
 mod querying;

@@ -2,11 +2,13 @@
 
 ghost use Rattle.std.specs.Prelude.{◌≡◌};
 ghost use Rattle.book.specs.declared.fault.OpenFault.TheVariants.{Layout as OfLayout, Memory as NoMemory};
+ghost use Rattle.book.specs.declared.fault.LoadFault.TheVariants.{File as OfFile, Tie as OfRefused};
 ghost use Rattle.book.specs.declared.fault.PostFault.TheVariants.{Tie as OfTie};
-ghost use Rattle.book.specs.Faults.{open_refusal, post_place, post_refusal, sheet_refusal, withdraw_refusal};
+ghost use Rattle.book.specs.Faults.{load_place, load_refusal, load_tie, open_refusal, post_place, post_refusal, sheet_refusal, withdraw_refusal};
 
 use refusals::Refusal;
 use std::alloc::AllocError;
+use tie_file::fault::FileFault;
 use ties::fault::{LayoutFault, TieFault};
 
 #[derive(Clone, Copy, Debug)]
@@ -85,6 +87,75 @@ impl From<TieFault> for PostFault {
 
     fn from(fault: TieFault) -> PostFault {
         PostFault::Tie(fault)
+    }
+}
+
+// The number of the tie of a file that was refused, from 0, and why.
+#[derive(Clone, Copy, Debug)]
+pub struct Stop {
+    pub tie: usize,
+    pub fault: PostFault,
+}
+
+#[derive(Clone, Copy, Debug)]
+pub enum LoadFault {
+    File(FileFault),
+    // the file's mark or layout is not the book's
+    Mark,
+    // the list of multipliers has fewer than 64 numbers
+    List,
+    // the number of the tie that was refused, from 0, and its own fault
+    Tie(usize, PostFault),
+}
+
+impl LoadFault {
+    // The number of the tie that was refused, where it is a tie's.
+    pub fn tie(self) -> Option<usize>
+        ensures { result ≡ load_tie self }
+    {
+        match self {
+            LoadFault::File(_) | LoadFault::Mark | LoadFault::List => None,
+            LoadFault::Tie(number, _) => Some(number),
+        }
+    }
+
+    // The place of the term at fault, where it is a term's.
+    pub fn place(self) -> Option<usize>
+        ensures { result ≡ load_place self }
+    {
+        match self {
+            LoadFault::File(_) | LoadFault::Mark | LoadFault::List => None,
+            LoadFault::Tie(_, fault) => fault.place(),
+        }
+    }
+}
+
+impl From<LoadFault> for Refusal {
+    ghost from_gives = { λ f r. r ≡ load_refusal f };
+
+    fn from(fault: LoadFault) -> Refusal {
+        match fault {
+            LoadFault::File(fault) => fault.into(),
+            LoadFault::Mark => Refusal::Mark,
+            LoadFault::List => Refusal::List,
+            LoadFault::Tie(_, fault) => fault.into(),
+        }
+    }
+}
+
+impl From<FileFault> for LoadFault {
+    ghost from_gives = { λ f r. r ≡ OfFile f };
+
+    fn from(fault: FileFault) -> LoadFault {
+        LoadFault::File(fault)
+    }
+}
+
+impl From<Stop> for LoadFault {
+    ghost from_gives = { λ stop r. r ≡ OfRefused stop.tie stop.fault };
+
+    fn from(stop: Stop) -> LoadFault {
+        LoadFault::Tie(stop.tie, stop.fault)
     }
 }
 

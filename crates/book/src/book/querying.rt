@@ -19,9 +19,10 @@ impl<S: Scale, P> Book<S, P> {
         let sound = tie.check(&self.scale, &self.layout)?;
         let rows: &[u32] = &self.table.rows;
         let total = total_at(&sound, &rows[..self.layout.places()]);
+        let totals = totals_at(&sound, rows);
         Ok(Reading {
             value: self.scale.sum(total, self.scale.negative(tie.right)),
-            settled: settled_digits(&sound, &totals_at(&sound, rows)),
+            settled: settled_digits(&sound, &totals),
         })
     }
 }
