@@ -1,2 +1,2 @@
 mod Own
-mod Sofar
+mod Summed

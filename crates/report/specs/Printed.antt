@@ -2,9 +2,9 @@
 use Rattle.std.specs.Prelude.{ℕ, zero, suc, ◌*◌, ◌/◌, ◌%◌, List, [], ◌++◌, Some, None, Ok, Err, codes, decimal, Option, Result, slice_index}
 use Rattle.refusals.specs.declared.Refusal.{Refusal}
 use Rattle.refusals.specs.Numbers.{number}
+use Rattle.book.specs.declared.fault.Stop.{Stop}
 use Rattle.book.specs.Faults.{post_refusal}
 use Rattle.report.specs.declared.answer.Report.{Report}
-use Rattle.report.specs.declared.answer.Stop.{Stop}
 use Rattle.report.specs.declared.fault.ReportFault.{ReportFault}
 use Rattle.report.specs.declared.lines.Lines.{Lines}
 use Rattle.report.specs.Faults.{report_refusal}

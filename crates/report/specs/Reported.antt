@@ -1,5 +1,5 @@
 -- The report on a tie file.
-use Rattle.std.specs.Prelude.{◌≡◌, ℕ, ◌<◌, ◌≤◌, List, [], ◌∷◌, length, take, replicate, Some, None, Option, slice_index}
+use Rattle.std.specs.Prelude.{◌≡◌, ℕ, ◌<◌, ◌≤◌, List, [], ◌∷◌, length, take, replicate, Some, None, Ok, Err, Option, Result, slice_index}
 use Rattle.scale.specs.Meaning.{Meaning}
 use Rattle.scales.specs.Kinds.{Numbers, named}
 use Rattle.ties.specs.Layouts.{Assignment, Has, Shape, Sized, Within, counters_of, place, width_of}
@@ -8,10 +8,10 @@ use Rattle.ties.specs.Faults.{BadLayout}
 use Rattle.tie_file.specs.Table.{WellFormed}
 use Rattle.tie_file.specs.Bodies.{file_mark, file_shape}
 use Rattle.tie_file.specs.Reading.{Bad}
+use Rattle.book.specs.declared.fault.Stop.{Stop}
 use Rattle.book.specs.Posting.{Accepted, PostStopped}
 use Rattle.book.specs.Querying.{Settles}
 use Rattle.report.specs.declared.answer.Report.{Report}
-use Rattle.report.specs.declared.answer.Stop.{Stop}
 use Rattle.report.specs.declared.fault.ReportFault.{ReportFault}
 use Rattle.report.specs.declared.fault.ReportFault.TheVariants.{File, Scale, Layout, Memory}
 
@@ -30,6 +30,10 @@ StoppedAt m s es n (Some stop) =
     (stop.tie ≡ n)
     × (n < length es)
     × PostStopped m s (take n es) (nth_equation es n) (replicate 64 0) stop.fault
+
+abbrev pub stop_of : Result ℕ Stop → Option Stop
+stop_of (Ok n) = None
+stop_of (Err stop) = Some stop
 
 -- the equation that states that a counter's code is 0, up to its own digits
 abbrev pub own : Meaning → ℕ → ℕ → Equation

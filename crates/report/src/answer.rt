@@ -2,7 +2,7 @@
 
 ghost use Rattle.std.specs.Prelude.{◌≡◌, slice_index};
 
-use book::fault::PostFault;
+use book::fault::Stop;
 
 // The first so many ties of the file stand, and leave so many digits free.
 #[derive(Clone, Copy, Debug)]
@@ -25,11 +25,4 @@ impl Report {
     {
         self.settled.get(place).copied().unwrap_or(0)
     }
-}
-
-// The number of the tie that was refused, from 0, and why.
-#[derive(Clone, Copy, Debug)]
-pub struct Stop {
-    pub tie: usize,
-    pub fault: PostFault,
 }

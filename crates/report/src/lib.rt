@@ -9,7 +9,7 @@ ghost use Rattle.tie_file.specs.Bodies.{equations, file_mark, file_shape};
 
 use crate::answer::Report;
 use crate::fault::ReportFault;
-use crate::posting::post_all;
+use crate::summing::report_on;
 use book::Book;
 use scales::AnyScale;
 use std::alloc::Global;
@@ -18,8 +18,8 @@ use tie_file::verify;
 pub mod answer;
 pub mod fault;
 pub mod lines;
-mod posting;
 mod settling;
+mod summing;
 
 // How many ties of the file stand, by the scale of the file's mark, how many digits they leave free, where and why
 // posting stopped, and how many digits of each counter's code are settled.
@@ -30,5 +30,5 @@ pub fn report(heap: Global, file: &[u8]) -> Result<Report, ReportFault>
     let stated = whole.layout();
     let scale = AnyScale::from_mark(stated.mark)?;
     let mut book = Book::new(heap, scale, stated.heads, stated.widths)?;
-    Ok(post_all(&mut book, &whole))
+    Ok(report_on(&mut book, &whole))
 }

@@ -16,10 +16,10 @@ pub fn settled_digits<S: Scale>(book: &Book<S, Open>) -> [u8; 32]
     let counters = usize::from(book.counters());
     let places = usize::from(book.heads()) * counters;
     let mut settled = [0; 32];
-    for i in 0..places {
+    for (i, digits) in settled[..places].iter_mut().enumerate() {
         let head = (i / counters) as u8;
         let counter = (i % counters) as u8;
-        settled[i] = settled_at(book, head, counter);
+        *digits = settled_at(book, head, counter);
     }
     settled
 }

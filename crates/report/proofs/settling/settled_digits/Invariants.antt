@@ -1,4 +1,4 @@
-use Rattle.std.proofs.Common.{◌≡◌, ℕ, ◌/◌, ◌%◌, ◌<◌, length, get_or}
+use Rattle.std.proofs.Common.{ℕ, ◌/◌, ◌%◌, ◌<◌, get_or}
 use Rattle.ties.specs.Layouts.{counters_of, shape}
 use Rattle.book.specs.Standing.{ledger}
 use Rattle.report.specs.Reported.{SettledAt}
@@ -6,5 +6,8 @@ use Rattle.report.proofs.settling.settled_digits.Given as goal
 
 abbrev pub invariant-loop-i : goal.invariant-loop-i
 invariant-loop-i g l =
-    (length l.settled ≡ 32)
-    × ((j : ℕ) → j < l.i → SettledAt (g.S.Scale.meaning l.book.scale) (shape l.book.layout) (ledger l.book.table) (j / counters_of (shape l.book.layout)) (j % counters_of (shape l.book.layout)) (get_or l.settled j 0))
+    let b = l.book in
+    let s = shape b.layout in
+    (j : ℕ)
+    → j < l.i
+    → SettledAt (g.S.Scale.meaning b.scale) s (ledger b.table) (j / counters_of s) (j % counters_of s) (get_or l.digits-items j 0)

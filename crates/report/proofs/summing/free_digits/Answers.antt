@@ -1,7 +1,7 @@
 use Rattle.std.proofs.Common.{◌+◌, ◌*◌, ◌≤◌, Ok, Err, Result, IsOk, MatchResult, refl, mul-le-mul, arith}
 use Rattle.ties.specs.Layouts.{places, shape}
 use Rattle.ties.proofs.Places.{layout_sized, places_most}
-use Rattle.report.proofs.posting.free_digits.Goals as goal
+use Rattle.report.proofs.summing.free_digits.Goals as goal
 
 -- what can't fail is there
 sure : {T E : Type 0} (r : Result T E) (P : T → Type 0) (Q : E → Type 0) → MatchResult r P Q → ((e : E) → Q e → ⊥) → IsOk r
