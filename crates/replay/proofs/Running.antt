@@ -1,11 +1,21 @@
 -- Runs, one call after the other.
-use Rattle.std.proofs.Common.{◌≡◌, ℕ, ◌≤◌, List, [], ◌∷◌, ◌++◌, length, Ok, Err, vec_items, Result, Vec, sym, refl, ap, ◌∙◌, subst, inl, inr, arith, length-append, Bor, MatchResult}
+use Rattle.std.proofs.Common.{◌≡◌, ℕ, ◌<◌, ◌≤◌, List, [], ◌∷◌, ◌++◌, length, take, Ok, Err, vec_items, Result, Vec, sym, refl, ap, ◌∙◌, subst, inl, inr, arith, length-append, Bor, MatchResult}
+use Rattle.std.proofs.lemmas.Bool.{cases_lt}
+use Rattle.std.proofs.lemmas.List.{append-nil, length-take}
 use Rattle.std.specs.declared.alloc.Global.{Global}
 use Rattle.scale.specs.Meaning.{Meaning}
 use Rattle.ties.specs.declared.fault.TieFault.{TieFault}
 use Rattle.ties.specs.Layouts.{Shape, shape}
 use Rattle.ties.specs.declared.tie.Tie.{Tie as TieOf}
-use Rattle.ties.specs.Equations.{Equation, equation}
+use Rattle.ties.specs.Equations.{Equation, equation, nth_equation}
+use Rattle.tie_file.specs.declared.fault.FileFault.{FileFault}
+use Rattle.tie_file.specs.declared.fault.FileFault.TheVariants.{Contents, Entry, Body}
+use Rattle.tie_file.specs.Bodies.{equations}
+use Rattle.tie_file.specs.Reading.{Bad}
+use Rattle.tie_file.specs.Table.{WellFormed}
+use Rattle.book.specs.declared.fault.LoadFault.{LoadFault}
+use Rattle.book.specs.declared.fault.LoadFault.TheVariants as load
+use Rattle.book.specs.declared.fault.LoadFault.TheVariants.{File, Mark}
 use Rattle.book.specs.declared.fault.PostFault.{PostFault}
 use Rattle.book.specs.declared.fault.PostFault.TheVariants.{List as Short, Tie, Full, Contradiction}
 use Rattle.book.specs.declared.fault.SheetFault.{SheetFault}
@@ -14,6 +24,7 @@ use Rattle.book.specs.Withdrawing.{Withdrawn}
 use Rattle.book.specs.Drawing.{DrawStopped, DrawnFrom}
 use Rattle.book.specs.declared.reading.Reading.{Reading}
 use Rattle.book.specs.Querying.{QueriedFrom, QueryStopped}
+use Rattle.book.specs.Loading.{Grown, LoadListed, LoadedTo, RefusedAt, Taken, loaded_of}
 use Rattle.book.specs.Posting.{Accepted, Listed, PostStopped, Posted, PostedTo}
 use Rattle.book.specs.Held.{Held}
 use Rattle.book.specs.Standing.{ledger}
@@ -22,7 +33,8 @@ use Rattle.replay.specs.declared.answer.Answer.{Answer}
 use Rattle.replay.specs.declared.answer.Answer.TheVariants as answer
 use Rattle.replay.specs.declared.call.Call.{Call}
 use Rattle.replay.specs.declared.call.Call.TheVariants as call
-use Rattle.replay.specs.Runs.{Fits, Place, Run, Step, post, query, sheet, withdraw}
+use Rattle.replay.specs.Runs as Runs
+use Rattle.replay.specs.Runs.{Fed, Fill, Fits, Place, Run, Step, post, query, sheet, withdraw}
 use Rattle.replay.specs.Performed.{place_of}
 
 -- one call more
@@ -64,6 +76,40 @@ longer es e same = omega (arith, length-append es (e ∷ []), ap length same)
 longer_none : (es : List Equation) (e : Equation) → es ++ (e ∷ []) ≡ [] → ⊥
 longer_none es e same = omega (arith, length-append es (e ∷ []), ap length same)
 
+-- a file that is refused by its own checks is not well formed
+ill : (f : List ℕ) (g : FileFault) → Bad f g → WellFormed f → ⊥
+ill f Contents bad formed = bad formed.table
+ill f Entry bad formed = bad.1 formed.entries
+ill f Body bad formed = bad.2 formed.bodies
+
+-- what a load answers tells how many of the file's ties fit
+module _ (m : Meaning) (s : Shape) (es fs : List Equation) (ys : List ℕ) where
+  fits_each : (n : ℕ) → 64 ≤ length ys → Taken m s es fs n → (i : ℕ) → i < n → Fits m s (es ++ take i fs) (nth_equation fs i) ys
+  fits_each n enough taken i h = fit m s (es ++ take i fs) (nth_equation fs i) ys _ enough (taken.accepted i h).1
+
+  fill_all : (n : ℕ) → 64 ≤ length ys → n ≡ length fs → Taken m s es fs n → Fill m s es fs ys n
+  fill_all n enough all taken = record { most = taken.most; fit = fits_each n enough taken; end = inl all }
+
+  fill_some : (n : ℕ) (f : PostFault) → 64 ≤ length ys → RefusedAt m s es fs ys n f → Fill m s es fs ys n
+  fill_some n f enough refused =
+      record {
+        most = refused.taken.most;
+        fit = fits_each n enough refused.taken;
+        end = inr (refused.inside, unfit m s (es ++ take n fs) (nth_equation fs n) ys f refused.stopped);
+      }
+
+  -- none does where the list is too short
+  fill_none : length ys < 64 → Fill m s es fs ys 0
+  fill_none short =
+      record {
+        most = omega arith;
+        fit = λ i h. absurd (omega (arith, h));
+        end = elim (cases_lt 0 (length fs)) [
+          | inl some ↦ inr (some, λ fits. omega (arith, fits.enough))
+          | inr none ↦ inl (omega (arith, none))
+        ];
+      }
+
 module _ {S : Type 0} (meaning : S → Meaning) (b new : Held S) where
   abbrev m : Meaning
   m = meaning b.scale
@@ -99,6 +145,60 @@ module _ {S : Type 0} (meaning : S → Meaning) (b new : Held S) where
       steady = λ same. ap place_of posted;
     },
   )
+
+  -- a load
+  module _ (f list : Bor (List ℕ)) where
+    abbrev fs : List Equation
+    fs = equations f.now
+
+    load_fed :
+        (r : Result ℕ LoadFault)
+        → LoadedTo meaning b f.now list.now r
+        → ledger new.table ≡ ledger b.table ++ take (loaded_of r) fs
+        → Fed m s (ledger b.table) (call.Load f list) (ledger new.table) × (loaded_of r ≤ length fs)
+    load_fed (Ok n) answered stand = (
+      inl (answered.0, (n, fill_all m s (ledger b.table) fs list.now n answered.1 answered.2 answered.3, stand)),
+      answered.3.most,
+    )
+    load_fed (Err (File g)) answered stand = (
+      inr ((λ l. ill f.now g answered l.formed), stand ∙ append-nil (ledger b.table)),
+      omega arith,
+    )
+    load_fed (Err Mark) answered stand = (
+      inr ((λ l. answered.1 (l.mark, l.shape)), stand ∙ append-nil (ledger b.table)),
+      omega arith,
+    )
+    load_fed (Err load.List) answered stand = (
+      inl (answered.0, (0, fill_none m s (ledger b.table) fs list.now answered.1, stand)),
+      omega arith,
+    )
+    load_fed (Err (load.Tie i g)) answered stand = (
+      inl (answered.0, (i, fill_some m s (ledger b.table) fs list.now i g answered.1 answered.2, stand)),
+      answered.2.taken.most,
+    )
+
+    pub load_step :
+        (r : Result ℕ LoadFault) (v : Vec ℕ Global)
+        → LoadedTo meaning b f.now list.now r
+        → Grown b fs (loaded_of r) new
+        → LoadListed meaning b f.now r list.now (vec_items v)
+        → Moved (call.Load f list) (answer.Load r v)
+    load_step r v answered grown listed =
+        let fed = load_fed r answered grown.stand in (
+          grown.same_scale,
+          grown.same_layout,
+          record {
+            replies = Runs.load f list r v answered listed;
+            fed = fed.0;
+            steady = λ same.
+                let n = loaded_of r in
+                let kept : length (ledger b.table ++ take n fs) ≡ length (ledger b.table) = ap length (sym grown.stand ∙ same) in
+                let none : n ≡ 0 =
+                omega (arith, kept, length-append (ledger b.table) (take n fs), length-take n fs, fed.1)
+                in
+                ap place_of (grown.steady none);
+          },
+        )
 
   -- a withdrawal
   pub withdraw_step : (r : Result Unit WithdrawFault) → Withdrawn b r new → Moved call.Withdraw (answer.Withdraw r)

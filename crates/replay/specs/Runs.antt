@@ -1,17 +1,20 @@
 -- The law of runs: what every list of calls on a book answers.
-use Rattle.std.specs.Prelude.{◌≡◌, ℕ, ◌<◌, ◌≤◌, ◌⊎◌, List, [], ◌∷◌, ◌++◌, length, vec_items, Result, Vec, MatchResult, ◌≢◌}
+use Rattle.std.specs.Prelude.{◌≡◌, ℕ, ◌<◌, ◌≤◌, ◌⊎◌, List, [], ◌∷◌, ◌++◌, length, take, vec_items, Result, Vec, MatchResult, ◌≢◌}
 use Rattle.std.specs.Borrow.{Bor}
 use Rattle.std.specs.declared.alloc.Global.{Global}
 use Rattle.scale.specs.Meaning.{Meaning}
 use Rattle.ties.specs.declared.tie.Tie.{Tie}
 use Rattle.ties.specs.Layouts.{Assignment, Shape, Sized, Within}
-use Rattle.ties.specs.Equations.{Equation, Solves, equation}
+use Rattle.ties.specs.Equations.{Equation, Solves, equation, nth_equation}
 use Rattle.ties.specs.declared.fault.TieFault.{TieFault}
 use Rattle.ties.specs.Faults.{Faulty, Sound}
+use Rattle.tie_file.specs.Bodies.{equations}
+use Rattle.book.specs.declared.fault.LoadFault.{LoadFault}
 use Rattle.book.specs.declared.fault.PostFault.{PostFault}
 use Rattle.book.specs.declared.fault.SheetFault.{SheetFault}
 use Rattle.book.specs.declared.fault.WithdrawFault.{WithdrawFault}
 use Rattle.book.specs.Posting.{Answered, Listing}
+use Rattle.book.specs.Loading.{LoadAnswered, LoadListing, Loadable}
 use Rattle.book.specs.Drawing.{Kept, SameSheet}
 use Rattle.book.specs.declared.reading.Reading.{Reading}
 use Rattle.book.specs.Querying.{Queried}
@@ -28,12 +31,22 @@ pub record Fits (m : Meaning) (s : Shape) (es : List Equation) (e : Equation) (l
   pub room : length es < 64
   pub some : (x : Assignment) × Solves m s (es ++ (e ∷ [])) x
 
--- the ledger is fed the calls and what they are handed, and nothing from the book: a tie that fits goes to its end, a
--- withdrawal takes off its last tie, if there is one, and nothing else changes it
+-- ties are to be accepted one behind the other: the first n do fit, and the next does not, if there is one
+pub record Fill (m : Meaning) (s : Shape) (es fs : List Equation) (list : List ℕ) (n : ℕ) : Type 0 where
+  pub most : n ≤ length fs
+  pub fit : (i : ℕ) → i < n → Fits m s (es ++ take i fs) (nth_equation fs i) list
+  pub end : (n ≡ length fs) ⊎ ((n < length fs) × (Fits m s (es ++ take n fs) (nth_equation fs n) list → ⊥))
+
+-- the ledger is fed the calls and what they are handed, and nothing from the book: a tie that fits goes to its end, so do
+-- those of a file that is for this scale and layout, up to the first that does not fit, a withdrawal takes off its last
+-- tie, if there is one, and nothing else changes it
 abbrev pub Fed : Meaning → Shape → List Equation → Call → List Equation → Type 0
 Fed m s es (call.Post t list) es' =
     (Fits m s es (equation t) list.now × (es' ≡ es ++ (equation t ∷ [])))
     ⊎ ((Fits m s es (equation t) list.now → ⊥) × (es' ≡ es))
+Fed m s es (call.Load f list) es' =
+    (Loadable m s f.now × ((n : ℕ) × Fill m s es (equations f.now) list.now n × (es' ≡ es ++ take n (equations f.now))))
+    ⊎ ((Loadable m s f.now → ⊥) × (es' ≡ es))
 Fed m s es call.Withdraw es' = ((e : Equation) × (es ≡ es' ++ (e ∷ []))) ⊎ ((es ≡ []) × (es' ≡ es))
 Fed m s es (call.Query t) es' = es' ≡ es
 Fed m s es (call.Sheet list) es' = es' ≡ es
@@ -52,6 +65,11 @@ pub data Replies (m : Meaning) (s : Shape) (p : Place) : Call → Answer → Typ
       → Answered m s p.ledger (equation t) list.now r
       → Listing m s p.ledger (equation t) r list.now (vec_items new)
       → Replies m s p (call.Post t list) (answer.Post r new)
+  load :
+      (f list : Bor (List ℕ)) (r : Result ℕ LoadFault) (new : Vec ℕ Global)
+      → LoadAnswered m s p.ledger f.now list.now r
+      → LoadListing m s p.ledger f.now r list.now (vec_items new)
+      → Replies m s p (call.Load f list) (answer.Load r new)
   withdraw :
       (r : Result Unit WithdrawFault)
       → MatchResult r (λ done. p.ledger ≢ []) (λ none. p.ledger ≡ [])

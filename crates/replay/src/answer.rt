@@ -1,6 +1,6 @@
 // The answers of a run.
 
-use book::fault::{PostFault, SheetFault, WithdrawFault};
+use book::fault::{LoadFault, PostFault, SheetFault, WithdrawFault};
 use book::reading::Reading;
 use ties::fault::TieFault;
 
@@ -8,6 +8,7 @@ use ties::fault::TieFault;
 #[derive(Drop)]
 pub enum Answer {
     Post(Result<u8, PostFault>, Vec<u32>),
+    Load(Result<usize, LoadFault>, Vec<u32>),
     Withdraw(Result<(), WithdrawFault>),
     Query(Result<Reading, TieFault>),
     Sheet(Result<u16, SheetFault>, Vec<u32>),

@@ -22,6 +22,11 @@ pub fn perform<S: Scale>(
             let answer = book.post(tie, &mut list);
             Ok(Answer::Post(answer, list))
         }
+        Call::Load(file, numbers) => {
+            let mut list = Vec::from_slice(heap, numbers)?;
+            let answer = book.load(file, &mut list);
+            Ok(Answer::Load(answer, list))
+        }
         Call::Withdraw => Ok(Answer::Withdraw(book.withdraw())),
         Call::Query(tie) => Ok(Answer::Query(book.query(tie))),
         Call::Sheet(numbers) => {
