@@ -17,6 +17,7 @@ use Rattle.book.specs.Querying.{Least, Queried, Settles}
 use Rattle.book.specs.Sheets.{generator_of, point_of}
 use Rattle.book.specs.Standing.{Stands, ledger}
 use Rattle.book.proofs.Coding.{coded, coded_generator, flat_dot_is, on_sheet, row_assigns, total_dot_is}
+use Rattle.book.proofs.Spots.{rows_size}
 use Rattle.book.proofs.Posts.{stands_codes, stands_exact, stands_slides, stands_solved}
 
 module _ (m : Meaning) (d : ℕ) (xs : List ℕ) where
@@ -94,8 +95,15 @@ module _ (m : Meaning) (l : Laws m) (s : Shape) (t : Table) (within : Within m s
     queried r ts is totals least =
         let deep = (within e.target sound.target).1 in
         let most = least.most in
+        let rows = stands_codes m l s t within stands in
         record {
           sound = sound;
+          whole =
+              record {
+                size = rows.1 ∙ rows_size (places s);
+                codes = rows.0;
+                exact = stands_exact m l s t within stands;
+              };
           at_point = is;
           most = most;
           agree =

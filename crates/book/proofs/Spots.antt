@@ -1,5 +1,5 @@
 -- Where the rows of a table lie: the point at 0, generator i at n + i * n.
-use Rattle.std.proofs.Common.{◌≡◌, ℕ, zero, suc, ◌+◌, ◌-◌, ◌*◌, ◌<◌, ◌≤◌, ◌⊎◌, List, ◌++◌, length, get_or, take, drop, refl, sym, ap, ◌∙◌, ap₂, inl, inr, le_refl, suc-mul, mul-le-mul, add-one, arith}
+use Rattle.std.proofs.Common.{◌≡◌, ℕ, zero, suc, ◌+◌, ◌-◌, ◌*◌, ◌<◌, ◌≤◌, ◌⊎◌, List, ◌++◌, length, get_or, take, drop, refl, sym, ap, ◌∙◌, ap₂, inl, inr, le_refl, suc-mul, mul-le-mul, mul-one, mul-add, add-one, arith}
 use Rattle.std.proofs.lemmas.Bool.{cases_lt}
 use Rattle.std.proofs.lemmas.List.{drop-drop, drop_at, get_or-drop, get_or-take, length-append, length-drop, take_at, places as sizes}
 use Rattle.scale.specs.Meaning.{Meaning, summed}
@@ -16,6 +16,10 @@ before n i p h =
     let k : suc i * n ≤ p * n = mul-le-mul h (le_refl n) in
     let e = suc-mul i n in
     omega arith
+
+-- the rows are as many numbers as a sheet has
+pub rows_size : (n : ℕ) → n + n * n ≡ n * (n + 1)
+rows_size n = omega (arith, mul-add n n 1, mul-one n)
 
 pub row_inside : (n i : ℕ) → i < n → n + i * n + n ≤ n + n * n
 row_inside n i h = let k = before n i n h in omega arith

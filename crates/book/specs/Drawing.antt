@@ -1,20 +1,18 @@
 -- Drawing a sheet.
-use Rattle.std.specs.Prelude.{◌≡◌, ℕ, ◌+◌, ◌*◌, ◌<◌, ◌≤◌, List, length, take, drop, vec_items, slice_index}
+use Rattle.std.specs.Prelude.{◌≡◌, ℕ, ◌<◌, ◌≤◌, List, length, take, drop, vec_items, slice_index}
 use Rattle.scale.specs.Meaning.{Code, Meaning}
-use Rattle.ties.specs.Layouts.{Shape, places, shape}
+use Rattle.ties.specs.Layouts.{Shape, shape}
 use Rattle.ties.specs.Equations.{Count, Equation}
+pub use Rattle.book.specs.Sheets.{sheet_size}
 use Rattle.book.specs.Sheets.{Exact}
 use Rattle.book.specs.Held.{Held}
 use Rattle.book.specs.Standing.{ledger}
 
--- a sheet has N × (N + 1) numbers
-abbrev pub sheet_size : Shape → ℕ
-sheet_size s = places s * (places s + 1)
-
 -- a sheet of equations is drawn into a list, with f free digits: all its numbers are codes, just the assignments on it
--- meet the equations, there are q^f of them, and the list is kept behind it
+-- meet the equations, there are q^f of them, and the list is as long as it was and kept behind it
 pub record Drawn (m : Meaning) (s : Shape) (es : List Equation) (old new : List ℕ) (f : ℕ) : Type 0 where
   pub room : sheet_size s ≤ length old
+  pub long : length new ≡ length old
   pub codes : (i : ℕ) → i < sheet_size s → Code m (slice_index new i)
   pub exact : Exact m s es new
   pub count : Count m s es f

@@ -61,7 +61,8 @@ Listing m s es e (Ok fixed) old new = new ≡ old
 Listing m s es e (Err Short) old new = new ≡ old
 Listing m s es e (Err (Tie f)) old new = new ≡ old
 Listing m s es e (Err Full) old new = new ≡ old
-Listing m s es e (Err Contradiction) old new = Shown m s (es ++ (e ∷ [])) new × Keeps (suc (length es)) old new
+Listing m s es e (Err Contradiction) old new =
+    Shown m s (es ++ (e ∷ [])) new × (length new ≡ length old) × Keeps (suc (length es)) old new
 
 -- the same of a book
 module _ {S : Type 0} (meaning : S → Meaning) (b : Held S) (e : Equation) where

@@ -7,7 +7,7 @@ use Rattle.ties.specs.Equations.{Equation, Solves, depth, value}
 use Rattle.ties.specs.Faults.{Faulty, Sound}
 use Rattle.book.specs.declared.reading.Reading.{Reading}
 use Rattle.book.specs.Drawing.{sheet_of}
-use Rattle.book.specs.Sheets.{point_of}
+use Rattle.book.specs.Sheets.{Whole, point_of}
 use Rattle.book.specs.Held.{Held}
 use Rattle.book.specs.Standing.{ledger}
 
@@ -16,11 +16,12 @@ abbrev pub Settles : Meaning → Shape → List Equation → Equation → ℕ �
 Settles m s es e k =
     (x y : Assignment) → Solves m s es x → Solves m s es y → k ≤ m.level (less m (value m e x) (value m e y))
 
--- an equation e is queried where the equations es stand, with the sheet xs: the value is the one at the sheet's point,
+-- an equation e is queried where the equations es stand, with their whole sheet xs: the value is the one at its point,
 -- and settled is the greatest k up to e's depth such that the values at any two solutions of es differ by level k or more
 pub record Queried (m : Meaning) (s : Shape) (es : List Equation) (xs : List ℕ) (e : Equation) (r : Reading) : Type 0
   where
     pub sound : Sound m s e
+    pub whole : Whole m s es xs
     pub at_point : r.value ≡ value m e (point_of s xs)
     pub most : r.settled ≤ depth s e
     pub agree : Settles m s es e r.settled

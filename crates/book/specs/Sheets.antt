@@ -1,9 +1,9 @@
 -- Sheets: one point and N generators, each of N codes in the order head, then counter.
-use Rattle.std.specs.Prelude.{◌≡◌, ℕ, ◌+◌, ◌*◌, ◌<◌, ◌↔◌, List}
+use Rattle.std.specs.Prelude.{◌≡◌, ℕ, ◌+◌, ◌*◌, ◌<◌, ◌↔◌, List, length}
 use Rattle.scale.specs.Meaning.{Meaning, Code, summed}
 use Rattle.ties.specs.Layouts.{Shape, Has, Assignment, Assigns, places}
 use Rattle.ties.specs.Equations.{Equation, MeetsAll}
-use Rattle.book.specs.Rows.{row_at}
+use Rattle.book.specs.Rows.{Codes, row_at}
 
 -- the point, and generator i
 abbrev pub point_of : Shape → List ℕ → Assignment
@@ -26,3 +26,13 @@ OnSheet m s xs x =
 -- a sheet is exact: just the assignments on it meet all equations
 abbrev pub Exact : Meaning → Shape → List Equation → List ℕ → Type 0
 Exact m s es xs = (x : Assignment) → Assigns m s x → MeetsAll m s es x ↔ OnSheet m s xs x
+
+-- a sheet has N × (N + 1) numbers
+abbrev pub sheet_size : Shape → ℕ
+sheet_size s = places s * (places s + 1)
+
+-- a whole sheet of equations: it has as many numbers, all of them codes, and is exact
+pub record Whole (m : Meaning) (s : Shape) (es : List Equation) (xs : List ℕ) : Type 0 where
+  pub size : length xs ≡ sheet_size s
+  pub codes : Codes m xs
+  pub exact : Exact m s es xs

@@ -1,5 +1,6 @@
-use Rattle.std.proofs.Common.{◌≡◌, ℕ, ◌+◌, ◌*◌, ◌<◌, List, ◌++◌, length, get_or, take, drop, vec_items, sym, refl, ap, ◌∙◌, subst, mul-one, mul-add, arith}
+use Rattle.std.proofs.Common.{◌≡◌, ℕ, ◌<◌, List, ◌++◌, length, get_or, take, drop, vec_items, sym, refl, ap, ◌∙◌, subst, arith}
 use lib.ListN.{get_or-append}
+use Rattle.std.proofs.lemmas.List.{length-append, length-drop}
 use lib.Seq.{drop-append_seam, take-append_seam}
 use Rattle.scale.specs.Meaning.{Code}
 use Rattle.ties.specs.Layouts.{places, shape}
@@ -8,11 +9,8 @@ use Rattle.book.specs.Standing.{ledger}
 use Rattle.book.proofs.Books.{rows_sheet}
 use Rattle.book.proofs.Posts.{stands_count, stands_exact}
 use Rattle.book.proofs.Sheeted.{exact_alike}
+use Rattle.book.proofs.Spots.{rows_size}
 use Rattle.book.proofs.book.Book.sheet.Goals as goal
-
--- the rows are as many numbers as a sheet has
-rows_size : (n : ℕ) → n + n * n ≡ n * (n + 1)
-rows_size n = omega (arith, mul-add n n 1, mul-one n)
 
 pub returns-then-list-size : goal.returns-then-list-size
 returns-then-list-size g c =
@@ -43,6 +41,7 @@ returns g c =
     (record {
       drawn = record {
         room = omega (arith, c.if-list-size.false);
+        long = omega (arith, length-append c.copy_from_slice.new.self (drop n old), length-drop n old, ap length copied, is, c.if-list-size.false);
         codes = λ i h. subst (Code m) (read i (omega arith)) (codes.0 i);
         exact = exact_alike m s (ledger b.table) rows new (λ i h. read i (omega (arith, codes.1))) (stands_exact m l s b.table ready.within ready.stands);
         count = stands_count m l s b.table ready.within ready.stands;

@@ -80,5 +80,6 @@ returns-clause-list g c =
       shown (g.S.Scale.meaning b.scale) (g.met.S.Scale.lawful b.scale) (shape b.layout) b.table ready.within ready.stands e
           c.refute.new.multipliers checked.0
           (omega (arith, ledger_length b.table, c.len.ensures, c.if-len-ge64.false, c.refute.auto.multipliers, c.if-multipliers-lt64.false)) refuted.0,
+      c.refute.auto.multipliers,
       λ i h. refuted.1 i (omega (arith, length-append (ledger b.table) (e ∷ []))),
     )
