@@ -1,7 +1,7 @@
 -- Runs, one call after the other.
-use Rattle.std.proofs.Common.{◌≡◌, ℕ, ◌<◌, ◌≤◌, List, [], ◌∷◌, ◌++◌, length, take, Ok, Err, vec_items, Result, Vec, sym, refl, ap, ◌∙◌, subst, inl, inr, arith, length-append, Bor, MatchResult}
+use Rattle.std.proofs.Common.{◌≡◌, ℕ, ◌<◌, ◌≤◌, List, [], ◌∷◌, ◌++◌, length, take, Ok, Err, vec_items, Result, Vec, sym, refl, ap, ◌∙◌, subst, subst₂, inl, inr, arith, length-append, Bor, MatchResult}
 use Rattle.std.proofs.lemmas.Bool.{cases_lt}
-use Rattle.std.proofs.lemmas.List.{append-nil, length-take}
+use Rattle.std.proofs.lemmas.List.{append-nil, append_assoc, length-take}
 use Rattle.std.specs.declared.alloc.Global.{Global}
 use Rattle.scale.specs.Meaning.{Meaning}
 use Rattle.ties.specs.declared.fault.TieFault.{TieFault}
@@ -33,9 +33,11 @@ use Rattle.replay.specs.declared.answer.Answer.{Answer}
 use Rattle.replay.specs.declared.answer.Answer.TheVariants as answer
 use Rattle.replay.specs.declared.call.Call.{Call}
 use Rattle.replay.specs.declared.call.Call.TheVariants as call
+use Rattle.replay.specs.declared.call.View.TheVariants as view
+use Rattle.replay.specs.declared.call.Turn.{Turn}
 use Rattle.replay.specs.Runs as Runs
-use Rattle.replay.specs.Runs.{Fed, Fill, Fits, Place, Run, Step, post, query, sheet, withdraw}
-use Rattle.replay.specs.Performed.{place_of}
+use Rattle.replay.specs.Runs.{Fed, Fill, Fits, Place, Run, Step, calls_of, post, query, sheet, views, withdraw}
+use Rattle.replay.specs.Performed.{Performed, PerformedAll, place_of}
 
 -- one call more
 pub run_more :
@@ -48,6 +50,67 @@ run_more m s p (d ∷ cs) (b ∷ rs) between q c a ran step =
     (ran.0, ran.1, run_more m s ran.0 cs rs between q c a ran.2 step)
 run_more m s p [] (b ∷ rs) between q c a ran step = absurd ran
 run_more m s p (d ∷ cs) [] between q c a ran step = absurd ran
+
+-- a run and another behind it
+pub run_join :
+    (m : Meaning) (s : Shape) (p : Place) (cs ds : List Call) (rs ss : List Answer) (between q : Place)
+    → Run m s p cs rs between
+    → Run m s between ds ss q
+    → Run m s p (cs ++ ds) (rs ++ ss) q
+run_join m s p [] ds [] ss between q ran next = subst (λ (o : Place). Run m s o ds ss q) ran next
+run_join m s p (c ∷ cs) ds (a ∷ rs) ss between q ran next =
+    (ran.0, ran.1, run_join m s ran.0 cs ds rs ss between q ran.2 next)
+run_join m s p [] ds (a ∷ rs) ss between q ran next = absurd ran
+run_join m s p (c ∷ cs) ds [] ss between q ran next = absurd ran
+
+-- one turn more
+pub calls_more : (ts : List Turn) (t : Turn) → calls_of (ts ++ (t ∷ [])) ≡ calls_of ts ++ (t.while_open.now ++ views t.while_closed.now)
+calls_more [] t = append-nil (t.while_open.now ++ views t.while_closed.now)
+calls_more (u ∷ ts) t =
+    ap (λ cs. (u.while_open.now ++ views u.while_closed.now) ++ cs) (calls_more ts t)
+    ∙ sym (append_assoc (u.while_open.now ++ views u.while_closed.now) (calls_of ts) (t.while_open.now ++ views t.while_closed.now))
+
+-- calls are performed one by one
+module _ {S : Type 0} (meaning : S → Meaning) (b : Held S) (before : List Answer) where
+  pub performed_none : PerformedAll meaning b [] before b before
+  performed_none =
+      record { same_scale = refl; same_layout = refl; answers = []; put = sym (append-nil before); ran = refl }
+
+  pub performed_more :
+      (cs : List Call) (c : Call) (now new : Held S) (sofar after : List Answer) (a : Answer)
+      → PerformedAll meaning b cs before now sofar
+      → Performed meaning now c a new
+      → after ≡ sofar ++ (a ∷ [])
+      → PerformedAll meaning b (cs ++ (c ∷ [])) before new after
+  performed_more cs c now new sofar after a done next pushed =
+      record {
+        same_scale = next.0 ∙ done.same_scale;
+        same_layout = next.1 ∙ done.same_layout;
+        answers = done.answers ++ (a ∷ []);
+        put = pushed ∙ ap (λ xs. xs ++ (a ∷ [])) done.put ∙ append_assoc before done.answers (a ∷ []);
+        ran =
+            run_more (meaning b.scale) (shape b.layout) (place_of b) cs done.answers (place_of now) (place_of new) c a done.ran
+            (subst₂ (λ (m : Meaning) (s : Shape). Step m s (place_of now) c a (place_of new)) (ap meaning done.same_scale)
+            (ap shape done.same_layout) next.2);
+      }
+
+-- some calls, and others behind them
+pub performed_join :
+    {S : Type 0} (meaning : S → Meaning) (b now new : Held S) (cs ds : List Call) (before sofar after : List Answer)
+    → PerformedAll meaning b cs before now sofar
+    → PerformedAll meaning now ds sofar new after
+    → PerformedAll meaning b (cs ++ ds) before new after
+performed_join meaning b now new cs ds before sofar after done next =
+    record {
+      same_scale = next.same_scale ∙ done.same_scale;
+      same_layout = next.same_layout ∙ done.same_layout;
+      answers = done.answers ++ next.answers;
+      put = next.put ∙ ap (λ xs. xs ++ next.answers) done.put ∙ append_assoc before done.answers next.answers;
+      ran =
+          run_join (meaning b.scale) (shape b.layout) (place_of b) cs ds done.answers next.answers (place_of now) (place_of new) done.ran
+          (subst₂ (λ (m : Meaning) (s : Shape). Run m s (place_of now) ds next.answers (place_of new)) (ap meaning done.same_scale)
+          (ap shape done.same_layout) next.ran);
+    }
 
 -- a tie that posting refuses does not fit
 pub unfit :
@@ -227,12 +290,12 @@ module _ {S : Type 0} (meaning : S → Meaning) (b new : Held S) where
 pub sheet_step :
     {S : Type 0} (meaning : S → Meaning) (b : Held S) (list : Bor (List ℕ)) (r : Result ℕ SheetFault) (v : Vec ℕ Global)
     → MatchResult r (DrawnFrom meaning b list.now (vec_items v)) (λ _. DrawStopped b list.now (vec_items v))
-    → Step (meaning b.scale) (shape b.layout) (place_of b) (call.Sheet list) (answer.Sheet r v) (place_of b)
+    → Step (meaning b.scale) (shape b.layout) (place_of b) (call.View (view.Sheet list)) (answer.Sheet r v) (place_of b)
 sheet_step meaning b list r v drawn = record { replies = sheet list r v drawn; fed = refl; steady = λ same. refl }
 
 -- a query, which leaves it as it was too
 pub query_step :
     {S : Type 0} (meaning : S → Meaning) (b : Held S) (t : TieOf) (r : Result Reading TieFault)
     → MatchResult r (QueriedFrom meaning b (equation t)) (QueryStopped meaning b (equation t))
-    → Step (meaning b.scale) (shape b.layout) (place_of b) (call.Query t) (answer.Query r) (place_of b)
+    → Step (meaning b.scale) (shape b.layout) (place_of b) (call.View (view.Query t)) (answer.Query r) (place_of b)
 query_step meaning b t r answered = record { replies = query t r answered; fed = refl; steady = λ same. refl }

@@ -1,5 +1,5 @@
 -- The law of runs: what every list of calls on a book answers.
-use Rattle.std.specs.Prelude.{◌≡◌, ℕ, ◌<◌, ◌≤◌, ◌⊎◌, List, [], ◌∷◌, ◌++◌, length, take, vec_items, Result, Vec, MatchResult, ◌≢◌}
+use Rattle.std.specs.Prelude.{◌≡◌, ℕ, ◌<◌, ◌≤◌, ◌⊎◌, List, [], ◌∷◌, ◌++◌, length, map, take, vec_items, Result, Vec, MatchResult, ◌≢◌}
 use Rattle.std.specs.Borrow.{Bor}
 use Rattle.std.specs.declared.alloc.Global.{Global}
 use Rattle.scale.specs.Meaning.{Meaning}
@@ -22,6 +22,9 @@ use Rattle.replay.specs.declared.answer.Answer.{Answer}
 use Rattle.replay.specs.declared.answer.Answer.TheVariants as answer
 use Rattle.replay.specs.declared.call.Call.{Call}
 use Rattle.replay.specs.declared.call.Call.TheVariants as call
+use Rattle.replay.specs.declared.call.View.{View}
+use Rattle.replay.specs.declared.call.View.TheVariants as view
+use Rattle.replay.specs.declared.call.Turn.{Turn}
 
 -- a tie is to be accepted: its list has 64 numbers or more, it is sound, fewer than 64 ties stand, and some assignment
 -- meets it and all of them
@@ -48,8 +51,7 @@ Fed m s es (call.Load f list) es' =
     (Loadable m s f.now × ((n : ℕ) × Fill m s es (equations f.now) list.now n × (es' ≡ es ++ take n (equations f.now))))
     ⊎ ((Loadable m s f.now → ⊥) × (es' ≡ es))
 Fed m s es call.Withdraw es' = ((e : Equation) × (es ≡ es' ++ (e ∷ []))) ⊎ ((es ≡ []) × (es' ≡ es))
-Fed m s es (call.Query t) es' = es' ≡ es
-Fed m s es (call.Sheet list) es' = es' ≡ es
+Fed m s es (call.View v) es' = es' ≡ es
 
 -- where a run stands: its ledger, and the one sheet with its free digits that is drawn until the ledger changes, at
 -- whose point queries read their values
@@ -77,11 +79,11 @@ pub data Replies (m : Meaning) (s : Shape) (p : Place) : Call → Answer → Typ
   query :
       (t : Tie) (r : Result Reading TieFault)
       → MatchResult r (Queried m s p.ledger p.sheet (equation t)) (Faulty m s (equation t))
-      → Replies m s p (call.Query t) (answer.Query r)
+      → Replies m s p (call.View (view.Query t)) (answer.Query r)
   sheet :
       (list : Bor (List ℕ)) (r : Result ℕ SheetFault) (new : Vec ℕ Global)
       → MatchResult r (SameSheet m s p.ledger p.sheet p.free list.now (vec_items new)) (λ short. Kept s list.now (vec_items new))
-      → Replies m s p (call.Sheet list) (answer.Sheet r new)
+      → Replies m s p (call.View (view.Sheet list)) (answer.Sheet r new)
 
 -- one call: it answers, it feeds the ledger, and where the ledger stays so does the sheet
 pub record Step (m : Meaning) (s : Shape) (p : Place) (c : Call) (a : Answer) (q : Place) : Type 0 where
@@ -95,6 +97,14 @@ Run m s p [] [] q = q ≡ p
 Run m s p (c ∷ cs) (a ∷ rest) q = (between : Place) × Step m s p c a between × Run m s between cs rest q
 Run m s p [] (a ∷ rest) q = ⊥
 Run m s p (c ∷ cs) [] q = ⊥
+
+-- the calls of turns, in order: closing a book and reopening it are no calls that anything comes of
+abbrev pub views : List View → List Call
+views vs = map call.View vs
+
+abbrev pub calls_of : List Turn → List Call
+calls_of [] = []
+calls_of (t ∷ ts) = (t.while_open.now ++ views t.while_closed.now) ++ calls_of ts
 
 -- the calls ran on a book that was opened with a layout in bounds and no tie
 pub record Lawful (m : Meaning) (s : Shape) (cs : List Call) (answers : List Answer) : Type 0 where

@@ -3,13 +3,13 @@
 #![tactic(auto)]
 
 ghost use Rattle.book.specs.Opening.{OpenStopped};
-ghost use Rattle.replay.specs.Runs.{Lawful};
+ghost use Rattle.replay.specs.Runs.{Lawful, calls_of};
 ghost use Rattle.std.specs.Prelude.{MatchResult};
 ghost use Rattle.ties.specs.Layouts.{Shape};
 
 use crate::answer::Answer;
-use crate::call::Call;
-use crate::performing::perform;
+use crate::call::Turn;
+use crate::performing::{look_all, perform_all};
 use book::Book;
 use book::fault::OpenFault;
 use scale::Scale;
@@ -19,20 +19,24 @@ pub mod answer;
 pub mod call;
 mod performing;
 
-// Opens a book, performs the calls on it one after the other, and returns every answer and what each list then holds.
+// Opens a book, performs the calls of each turn on it, first open and then closed, and returns every answer and what each
+// list then holds.
 pub fn replay<S: Scale + Drop>(
     heap: Global,
     scale: S,
     heads: u8,
     widths: &[u8],
-    calls: &[Call],
+    turns: &[Turn],
 ) -> Result<Vec<Answer>, OpenFault>
-    ensures { let m = S.Scale.meaning scale in let s : Shape = record { heads = heads; widths = widths.now } in MatchResult result (λ answers. Lawful m s calls.now answers.items) (OpenStopped m s) }
+    ensures { let m = S.Scale.meaning scale in let s : Shape = record { heads = heads; widths = widths.now } in MatchResult result (λ answers. Lawful m s (calls_of turns.now) answers.items) (OpenStopped m s) }
 {
     let mut book = Book::new(heap, scale, heads, widths)?;
-    let mut answers = Vec::with_capacity(heap, calls.len())?;
-    for call in calls {
-        answers.push_reserved(perform(heap, &mut book, call)?);
+    let mut answers = Vec::new(heap);
+    for turn in turns {
+        perform_all(heap, &mut book, turn.while_open, &mut answers)?;
+        let closed = book.close();
+        look_all(heap, &closed, turn.while_closed, &mut answers)?;
+        book = closed.reopen();
     }
     Ok(answers)
 }

@@ -1,20 +1,52 @@
-// One call on a book.
+// Calls on a book.
 
-ghost use Rattle.replay.specs.Performed.{Performed};
+ghost use Rattle.replay.specs.Performed.{Looked, Performed, PerformedAll};
+ghost use Rattle.replay.specs.Runs.{views};
+ghost use Rattle.std.specs.Prelude.{IfOk};
 
 use crate::answer::Answer;
-use crate::call::Call;
+use crate::call::{Call, View};
 use book::{Book, Open};
 use scale::Scale;
 use std::alloc::{AllocError, Global};
 
-// Performs a call on a book, with a copy of the list that it hands over.
-pub fn perform<S: Scale>(
+// Performs the calls one after the other, and puts their answers behind those before.
+pub fn perform_all<S: Scale>(
+    heap: Global,
+    book: &mut Book<S, Open>,
+    calls: &[Call],
+    answers: &mut Vec<Answer>,
+) -> Result<(), AllocError>
+    ensures { IfOk result (λ _. PerformedAll S.Scale.meaning book.old calls.now answers.old.items book.new answers.new.items) }
+{
+    for call in calls {
+        answers.push(perform(heap, book, call)?)?;
+    }
+    Ok(())
+}
+
+// Performs the calls that both phases take.
+pub fn look_all<S: Scale, P>(
+    heap: Global,
+    book: &Book<S, P>,
+    calls: &[View],
+    answers: &mut Vec<Answer>,
+) -> Result<(), AllocError>
+    ensures { IfOk result (λ _. PerformedAll S.Scale.meaning book.now (views calls.now) answers.old.items book.now answers.new.items) }
+{
+    for call in calls {
+        answers.push(look(heap, book, call)?)?;
+    }
+    Ok(())
+}
+
+// Performs a call on an open book, with a copy of the list that it hands over.
+fn perform<S: Scale>(
     heap: Global,
     book: &mut Book<S, Open>,
     call: &Call,
 ) -> Result<Answer, AllocError>
-    ensures { Performed S.Scale.meaning book.old call.now result book.new }
+    ensures { IfOk result (λ a. Performed S.Scale.meaning book.old call.now a book.new) }
 {
     match call {
         Call::Post(tie, numbers) => {
@@ -28,8 +60,17 @@ pub fn perform<S: Scale>(
             Ok(Answer::Load(answer, list))
         }
         Call::Withdraw => Ok(Answer::Withdraw(book.withdraw())),
-        Call::Query(tie) => Ok(Answer::Query(book.query(tie))),
-        Call::Sheet(numbers) => {
+        Call::View(view) => look(heap, book, view),
+    }
+}
+
+// Performs a call that both phases take, with a copy of the list that it hands over.
+fn look<S: Scale, P>(heap: Global, book: &Book<S, P>, view: &View) -> Result<Answer, AllocError>
+    ensures { IfOk result (λ a. Looked S.Scale.meaning book.now view.now a) }
+{
+    match view {
+        View::Query(tie) => Ok(Answer::Query(book.query(tie))),
+        View::Sheet(numbers) => {
             let mut list = Vec::from_slice(heap, numbers)?;
             let answer = book.sheet(&mut list);
             Ok(Answer::Sheet(answer, list))

@@ -1,44 +1,41 @@
-use Rattle.std.proofs.Common.{◌+◌, List, [], get_or, take, vec_items, sym, ap, ◌∙◌, subst₂, arith}
-use Rattle.std.proofs.lemmas.List.{take_more}
-use Rattle.scale.specs.Meaning.{Meaning}
-use Rattle.ties.specs.Layouts.{Shape, shape}
-use Rattle.replay.specs.declared.answer.Answer.{Answer}
+use Rattle.std.proofs.Common.{◌≡◌, ◌+◌, List, [], ◌++◌, get_or, take, vec_items, sym, ap, ◌∙◌, subst}
+use Rattle.std.proofs.lemmas.List.{append_assoc, take_more}
+use Rattle.book.specs.Held.{Held}
 use Rattle.replay.specs.declared.call.Call.{Call}
-use Rattle.replay.specs.declared.call.Call.TheVariants as call
-use Rattle.replay.specs.Runs.{Run, Step}
-use Rattle.replay.specs.Performed.{place_of}
-use Rattle.replay.proofs.Running.{run_more}
+use Rattle.replay.specs.declared.call.Turn.{Turn}
+use Rattle.replay.specs.Performed.{PerformedAll}
+use Rattle.replay.specs.Runs.{calls_of, views}
+use Rattle.replay.proofs.Running.{calls_more, performed_join}
 use Rattle.replay.proofs.replay.Goals as goal
 
--- no call, where a list has no such
-abbrev none : Call
+-- no turn, where a list has no such
+abbrev none : Turn
 none =
-    call.Post (record { target = 0; right = 0; terms = record { ref_ptr = (0, 0); now = [] } }) (record { ref_ptr = (0, 0); now = [] })
+    record { while_open = record { ref_ptr = (0, 0); now = [] }; while_closed = record { ref_ptr = (0, 0); now = [] } }
 
-pub loop-call-preserved : goal.loop-call-preserved
-loop-call-preserved g c =
+pub loop-turn-preserved : goal.loop-turn-preserved
+loop-turn-preserved g c =
     let meaning = g.S.Scale.meaning in
-    let start = c.in_ok-book.book in
-    let before = c.loop-call.book in
-    let new = c.perform.new.book in
-    let inv = c.loop-call.invariant in
-    let done = c.in_ok-perform.ensures in
-    let calls = c.args.calls.now in
-    let i = c.loop-call.call-index in
-    let a = c.in_ok-perform.field-0 in
-    let step : Step (meaning start.scale) (shape start.layout) (place_of before) (get_or calls i none) a (place_of new) =
-    subst₂ (λ (m : Meaning) (s : Shape). Step m s (place_of before) (get_or calls i none) a (place_of new))
-    (ap meaning inv.same_scale) (ap shape inv.same_layout) done.2
+    let first = c.in_ok-book.book in
+    let turns = c.args.turns.now in
+    let k = c.loop-turn.turn-index in
+    let t = get_or turns k none in
+    let mid = c.perform_all.new.book in
+    let sofar = vec_items c.perform_all.new.answers in
+    let after = vec_items c.look_all.new.answers in
+    let opened =
+    performed_join meaning first c.loop-turn.book mid (calls_of (take k turns)) t.while_open.now [] (vec_items c.loop-turn.answers) sofar
+    c.loop-turn.invariant c.in_ok-perform_all.ensures
     in
-    let ran =
-    run_more (meaning start.scale) (shape start.layout) (place_of start) (take i calls) (vec_items c.loop-call.answers)
-    (place_of before) (place_of new) (get_or calls i none) a inv.ran step
+    let same : c.reopen-book.result ≡ mid = c.reopen-book.ensures ∙ c.close-closed.ensures in
+    let looked : PerformedAll meaning mid (views t.while_closed.now) sofar mid after =
+    subst (λ (b : Held _). PerformedAll meaning b (views t.while_closed.now) sofar b after) c.close-closed.ensures c.in_ok-look_all.ensures
     in
-    record {
-      same_scale = done.0 ∙ inv.same_scale;
-      same_layout = done.1 ∙ inv.same_layout;
-      one_each = c.push_reserved.ensures.len ∙ ap (λ n. n + 1) inv.one_each;
-      room = omega (arith, c.push_reserved.ensures.capacity, inv.room);
-      ran = subst₂ (λ (cs : List Call) (rs : List Answer). Run (meaning start.scale) (shape start.layout) (place_of start) cs rs (place_of new))
-          (sym (take_more calls i none c.loop-call-test.true)) (sym c.push_reserved.ensures.items) ran;
-    }
+    let closed = performed_join meaning first mid mid (calls_of (take k turns) ++ t.while_open.now) (views t.while_closed.now) [] sofar after opened looked in
+    let order =
+    append_assoc (calls_of (take k turns)) t.while_open.now (views t.while_closed.now)
+    ∙ sym (calls_more (take k turns) t)
+    ∙ ap calls_of (sym (take_more turns k none c.loop-turn-test.true))
+    in
+    subst (λ (b : Held _). PerformedAll meaning first (calls_of (take (k + 1) turns)) [] b after) (sym same)
+    (subst (λ (cs : List Call). PerformedAll meaning first cs [] mid after) order closed)

@@ -1,11 +1,10 @@
-use Rattle.std.proofs.Common.{◌≡◌, ℕ, List, vec_items, sym, refl, ◌∙◌, subst, subst₂, MatchResult}
+use Rattle.std.proofs.Common.{◌≡◌, ℕ, List, vec_items, sym, ◌∙◌, subst, subst₂}
 use Rattle.std.specs.Vec.{with_items}
 use Rattle.std.proofs.lemmas.List.{with_items_is}
 use Rattle.ties.specs.Equations.{equation}
-use Rattle.book.specs.Drawing.{DrawStopped, DrawnFrom}
 use Rattle.book.specs.Loading.{LoadListed, LoadedTo}
 use Rattle.book.specs.Posting.{Listed, PostedTo}
-use Rattle.replay.proofs.Running.{load_step, post_step, query_step, sheet_step, withdraw_step}
+use Rattle.replay.proofs.Running.{load_step, post_step, withdraw_step}
 use Rattle.replay.proofs.performing.perform.Goals as goal
 
 pub returns-in_ok-list-in-Post : goal.returns-in_ok-list-in-Post
@@ -47,23 +46,3 @@ returns-in_ok-list-in-Load g c =
 pub returns-in-Withdraw : goal.returns-in-Withdraw
 returns-in-Withdraw g c =
     rw c.in-Withdraw.is (withdraw_step g.S.Scale.meaning c.args.book.now c.withdraw.new.self c.withdraw.result c.withdraw.ensures)
-
-pub returns-in-Query : goal.returns-in-Query
-returns-in-Query g c =
-    rw c.in-Query.is
-    (refl, refl, query_step g.S.Scale.meaning c.args.book.now c.in-Query.tie c.query.result c.query.ensures)
-
-pub returns-in_ok-list-in-Sheet : goal.returns-in_ok-list-in-Sheet
-returns-in_ok-list-in-Sheet g c =
-    let meaning = g.S.Scale.meaning in
-    let b = c.args.book.now in
-    let r = c.sheet-answer.result in
-    let v = with_items c.in_ok-list-in-Sheet.list c.sheet-answer.new.list in
-    let handed = c.deref_mut-in-Sheet.ensures.value ∙ c.in_ok-list-in-Sheet.ensures.items in
-    let held : vec_items v ≡ c.sheet-answer.new.list =
-    with_items_is c.in_ok-list-in-Sheet.list c.sheet-answer.new.list (c.sheet-answer.auto.list ∙ c.deref_mut-in-Sheet.ensures.len)
-    in
-    let drawn =
-    subst₂ (λ (ys zs : List ℕ). MatchResult r (DrawnFrom meaning b ys zs) (λ _. DrawStopped b ys zs)) handed (sym held) c.sheet-answer.ensures
-    in
-    rw c.in-Sheet.is (refl, refl, sheet_step meaning b c.in-Sheet.numbers r v drawn)
