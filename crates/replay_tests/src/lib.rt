@@ -1,0 +1,6 @@
+// A run on a real book, with every sort of call.
+
+#![tactic(auto)]
+
+#[cfg(test)]
+mod tests;

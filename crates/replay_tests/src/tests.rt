@@ -1,0 +1,53 @@
+use book::fault::{LoadFault, PostFault};
+use replay::answer::Answer;
+use replay::call::{Call, Turn, View};
+use replay::replay;
+use scales::Binary;
+use std::test::Fail;
+
+// Binary, length 3, two heads with one counter of width 3: 2x + 4y = 6, and 4x = 0.
+const TWO_TIES: [u8; 50] = [
+    3, 1, 16, 0, 6, 0, 2, 22, 0, 17, 0, 2, 39, 0, 11, 0, // the table
+    1, 2, 3, 2, 1, 3, // the layout
+    0, 6, 0, 0, 0, 0, 0, 2, 0, 0, 0, 1, 0, 4, 0, 0, 0, // 2x + 4y = 6
+    0, 0, 0, 0, 0, 0, 0, 4, 0, 0, 0, // 4x = 0
+];
+
+#[test]
+fn loads_closes_and_withdraws(rt: HostRuntime) -> Result<(), Fail> {
+    let open = [
+        Call::Load(&TWO_TIES, &[0; 64]),
+        Call::View(View::Sheet(&[0; 6])),
+    ];
+    let closed = [View::Sheet(&[0; 6]), View::Sheet(&[0; 5])];
+    let reopened = [
+        Call::Withdraw,
+        Call::Withdraw,
+        Call::View(View::Sheet(&[0; 6])),
+    ];
+    let turns = [
+        Turn {
+            while_open: &open,
+            while_closed: &closed,
+        },
+        Turn {
+            while_open: &reopened,
+            while_closed: &[],
+        },
+    ];
+    let answers = replay(rt.alloc(), Binary::new(3)?, 2, &[3], &turns)?;
+    assert!(rt;
+        matches!(
+            answers.get(0),
+            Some(Answer::Load(Err(LoadFault::Tie(1, PostFault::Contradiction)), _))
+        )
+    );
+    assert!(rt; matches!(answers.get(1), Some(Answer::Sheet(Ok(4), _))));
+    assert!(rt; matches!(answers.get(2), Some(Answer::Sheet(Ok(4), _))));
+    assert!(rt; matches!(answers.get(3), Some(Answer::Sheet(Err(_), _))));
+    assert!(rt; matches!(answers.get(4), Some(Answer::Withdraw(Ok(_)))));
+    assert!(rt; matches!(answers.get(5), Some(Answer::Withdraw(Err(_)))));
+    assert!(rt; matches!(answers.get(6), Some(Answer::Sheet(Ok(6), _))));
+    assert_eq!(rt; answers.len(), 7);
+    Ok(())
+}
