@@ -2,3 +2,5 @@ pub mod Table
 pub mod Bodies
 pub mod Reading
 pub mod Steps
+pub mod Writing
+pub mod Putting

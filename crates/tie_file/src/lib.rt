@@ -17,6 +17,7 @@ pub mod entry;
 pub mod fault;
 pub mod file;
 pub mod parts;
+pub mod writing;
 
 // A longer file is refused.
 pub const MOST_BYTES: usize = 16_384;
