@@ -14,6 +14,8 @@ use Rattle.book.specs.declared.fault.SheetFault.{SheetFault}
 use Rattle.book.specs.declared.fault.SheetFault.TheVariants as sheet
 use Rattle.book.specs.declared.fault.WithdrawFault.{WithdrawFault}
 use Rattle.book.specs.declared.fault.WithdrawFault.TheVariants as withdraw
+use Rattle.book.specs.declared.fault.WriteFault.{WriteFault}
+use Rattle.book.specs.declared.fault.WriteFault.TheVariants as write
 
 abbrev pub open_refusal : OpenFault → Option Refusal
 open_refusal (Layout f) = Some (layout_refusal f)
@@ -53,6 +55,9 @@ load_place (load.Tie i f) = post_place f
 
 abbrev pub sheet_refusal : SheetFault → Refusal
 sheet_refusal sheet.List = refusal.List
+
+abbrev pub write_refusal : WriteFault → Refusal
+write_refusal write.List = refusal.List
 
 abbrev pub withdraw_refusal : WithdrawFault → Refusal
 withdraw_refusal withdraw.Nothing = refusal.Nothing

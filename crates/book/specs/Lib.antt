@@ -13,3 +13,4 @@ pub mod Loading
 pub mod Drawing
 pub mod Withdrawing
 pub mod Querying
+pub mod Writing

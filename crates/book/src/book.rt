@@ -62,3 +62,4 @@ mod opening;
 mod posting;
 mod querying;
 mod withdrawing;
+mod writing;

@@ -4,7 +4,7 @@ ghost use Rattle.std.specs.Prelude.{◌≡◌};
 ghost use Rattle.book.specs.declared.fault.OpenFault.TheVariants.{Layout as OfLayout, Memory as NoMemory};
 ghost use Rattle.book.specs.declared.fault.LoadFault.TheVariants.{File as OfFile, Tie as OfRefused};
 ghost use Rattle.book.specs.declared.fault.PostFault.TheVariants.{Tie as OfTie};
-ghost use Rattle.book.specs.Faults.{load_place, load_refusal, load_tie, open_refusal, post_place, post_refusal, sheet_refusal, withdraw_refusal};
+ghost use Rattle.book.specs.Faults.{load_place, load_refusal, load_tie, open_refusal, post_place, post_refusal, sheet_refusal, withdraw_refusal, write_refusal};
 
 use refusals::Refusal;
 use std::alloc::AllocError;
@@ -171,6 +171,22 @@ impl From<SheetFault> for Refusal {
     fn from(fault: SheetFault) -> Refusal {
         match fault {
             SheetFault::List => Refusal::List,
+        }
+    }
+}
+
+#[derive(Clone, Copy, PartialEq, Eq, Debug)]
+pub enum WriteFault {
+    // the list has too few bytes for the file
+    List,
+}
+
+impl From<WriteFault> for Refusal {
+    ghost from_gives = { λ f r. r ≡ write_refusal f };
+
+    fn from(fault: WriteFault) -> Refusal {
+        match fault {
+            WriteFault::List => Refusal::List,
         }
     }
 }

@@ -1,4 +1,4 @@
-use Rattle.std.proofs.Common.{◌<◌, [], ◌∷◌, length, vec_items, arith, length-append}
+use Rattle.std.proofs.Common.{◌<◌, [], ◌∷◌, length, vec_items, ap, arith, length-append}
 use Rattle.ties.specs.Equations.{equation}
 use Rattle.ties.specs.Layouts.{shape}
 use Rattle.book.specs.Measures.{Measures}
@@ -34,6 +34,15 @@ invariant_of-self g c =
       within = ready.within;
       stands = taken_stands (g.S.Scale.meaning b.scale) (g.met.S.Scale.lawful b.scale) (shape b.layout) b.table ready.within ready.stands
           (equation c.args.tie.now) c.take_in.new.table c.take_in.result took;
+      few = omega (
+        arith,
+        c.take_in.new.table.standing.ok.0,
+        ap length took.standing,
+        length-append (vec_items b.table.standing) (took.last ∷ []),
+        b.table.standing.ok.0,
+        c.len.ensures,
+        c.if-len-ge64.false,
+      );
       room = omega (arith, took.room, ready.room);
     }
 

@@ -1,4 +1,4 @@
-use Rattle.std.proofs.Common.{◌≡◌, ℕ, List, ◌∷◌, [], ◌++◌, map, length, vec_items, vec_capacity, sym, refl, ap, ◌∙◌, subst, arith}
+use Rattle.std.proofs.Common.{◌≡◌, ℕ, List, ◌∷◌, [], ◌++◌, map, length, vec_items, vec_capacity, vec_len, sym, refl, ap, ◌∙◌, subst, arith}
 use mathlib.Core.List.{map-append}
 use Rattle.ties.specs.Layouts.{shape}
 use Rattle.book.specs.declared.standing.Standing.{Standing}
@@ -35,7 +35,12 @@ invariant_of-self g c =
     (subst (λ (f : ℕ). Built m s qs (length qs) step.0 f) (sym back.1) step.2))
     in
     let room = ap vec_capacity c.give_back.ensures.1 ∙ c.take_last-last.ensures.capacity in
-    record { within = c.self.invariant.within; stands = stands; room = omega (arith, room, c.self.invariant.room) }
+    record {
+      within = c.self.invariant.within;
+      stands = stands;
+      few = omega (arith, ap vec_len c.give_back.ensures.1, c.take_last-last.ensures.len, c.self.invariant.few);
+      room = omega (arith, room, c.self.invariant.room);
+    }
 
 pub returns : goal.returns
 returns g c =

@@ -1,0 +1,19 @@
+-- Writing a book as a tie file.
+use Rattle.std.specs.Prelude.{◌≡◌, ℕ, ◌<◌, List, length}
+use Rattle.scale.specs.Meaning.{Meaning}
+use Rattle.ties.specs.Layouts.{Shape, shape}
+use Rattle.ties.specs.Equations.{Equation}
+use Rattle.tie_file.specs.Writing.{Written, file_size}
+use Rattle.book.specs.Held.{Held}
+use Rattle.book.specs.Standing.{ledger}
+
+-- the file of the book's mark, layout and standing ties is written to the front of a list
+abbrev pub WrittenFrom : {S : Type 0} → (S → Meaning) → Held S → List ℕ → List ℕ → ℕ → Type 0
+WrittenFrom meaning b = Written (meaning b.scale).mark (shape b.layout) (ledger b.table)
+
+-- a list that is shorter than the file is kept
+abbrev pub TooShort : Shape → List Equation → List ℕ → List ℕ → Type 0
+TooShort s es old new = (length old < file_size s es) × (new ≡ old)
+
+abbrev pub WriteStopped : {S : Type 0} → Held S → List ℕ → List ℕ → Type 0
+WriteStopped b = TooShort (shape b.layout) (ledger b.table)
