@@ -20,8 +20,10 @@ use Rattle.book.specs.declared.fault.PostFault.{PostFault}
 use Rattle.book.specs.declared.fault.PostFault.TheVariants.{List as Short, Tie, Full, Contradiction}
 use Rattle.book.specs.declared.fault.SheetFault.{SheetFault}
 use Rattle.book.specs.declared.fault.WithdrawFault.{WithdrawFault}
+use Rattle.book.specs.declared.fault.WriteFault.{WriteFault}
 use Rattle.book.specs.Withdrawing.{Withdrawn}
 use Rattle.book.specs.Drawing.{DrawStopped, DrawnFrom}
+use Rattle.book.specs.Writing.{WriteStopped, WrittenFrom}
 use Rattle.book.specs.declared.reading.Reading.{Reading}
 use Rattle.book.specs.Querying.{QueriedFrom, QueryStopped}
 use Rattle.book.specs.Loading.{Grown, LoadListed, LoadedTo, RefusedAt, Taken, loaded_of}
@@ -36,7 +38,7 @@ use Rattle.replay.specs.declared.call.Call.TheVariants as call
 use Rattle.replay.specs.declared.call.View.TheVariants as view
 use Rattle.replay.specs.declared.call.Turn.{Turn}
 use Rattle.replay.specs.Runs as Runs
-use Rattle.replay.specs.Runs.{Fed, Fill, Fits, Place, Run, Step, calls_of, post, query, sheet, views, withdraw}
+use Rattle.replay.specs.Runs.{Fed, Fill, Fits, Place, Run, Step, calls_of, post, query, sheet, views, withdraw, write}
 use Rattle.replay.specs.Performed.{Performed, PerformedAll, place_of}
 
 -- one call more
@@ -299,3 +301,10 @@ pub query_step :
     → MatchResult r (QueriedFrom meaning b (equation t)) (QueryStopped meaning b (equation t))
     → Step (meaning b.scale) (shape b.layout) (place_of b) (call.View (view.Query t)) (answer.Query r) (place_of b)
 query_step meaning b t r answered = record { replies = query t r answered; fed = refl; steady = λ same. refl }
+
+-- nor does writing it change anything
+pub write_step :
+    {S : Type 0} (meaning : S → Meaning) (b : Held S) (list : Bor (List ℕ)) (r : Result ℕ WriteFault) (v : Vec ℕ Global)
+    → MatchResult r (WrittenFrom meaning b list.now (vec_items v)) (λ _. WriteStopped b list.now (vec_items v))
+    → Step (meaning b.scale) (shape b.layout) (place_of b) (call.View (view.Write list)) (answer.Write r v) (place_of b)
+write_step meaning b list r v written = record { replies = write list r v written; fed = refl; steady = λ same. refl }

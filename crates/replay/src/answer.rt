@@ -1,6 +1,6 @@
 // The answers of a run.
 
-use book::fault::{LoadFault, PostFault, SheetFault, WithdrawFault};
+use book::fault::{LoadFault, PostFault, SheetFault, WithdrawFault, WriteFault};
 use book::reading::Reading;
 use ties::fault::TieFault;
 
@@ -12,4 +12,5 @@ pub enum Answer {
     Withdraw(Result<(), WithdrawFault>),
     Query(Result<Reading, TieFault>),
     Sheet(Result<u16, SheetFault>, Vec<u32>),
+    Write(Result<usize, WriteFault>, Vec<u8>),
 }

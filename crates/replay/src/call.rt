@@ -9,6 +9,8 @@ pub enum View<'a> {
     Query(Tie<'a>),
     // draws a sheet into a list of these numbers
     Sheet(&'a [u32]),
+    // writes the book's tie file to a list of these bytes
+    Write(&'a [u8]),
 }
 
 // What an open book takes.

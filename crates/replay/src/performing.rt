@@ -75,5 +75,10 @@ fn look<S: Scale, P>(heap: Global, book: &Book<S, P>, view: &View) -> Result<Ans
             let answer = book.sheet(&mut list);
             Ok(Answer::Sheet(answer, list))
         }
+        View::Write(bytes) => {
+            let mut list = Vec::from_slice(heap, bytes)?;
+            let answer = book.write(&mut list);
+            Ok(Answer::Write(answer, list))
+        }
     }
 }

@@ -51,3 +51,28 @@ fn loads_closes_and_withdraws(rt: HostRuntime) -> Result<(), Fail> {
     assert_eq!(rt; answers.len(), 7);
     Ok(())
 }
+
+// The same scale and layout, and the first of the ties.
+const ONE_TIE: [u8; 34] = [
+    2, 1, 11, 0, 6, 0, 2, 17, 0, 17, 0, // the table
+    1, 2, 3, 2, 1, 3, // the layout
+    0, 6, 0, 0, 0, 0, 0, 2, 0, 0, 0, 1, 0, 4, 0, 0, 0, // 2x + 4y = 6
+];
+
+#[test]
+fn writes_what_it_took_whole(rt: HostRuntime) -> Result<(), Fail> {
+    let turns = [Turn {
+        while_open: &[Call::Load(&ONE_TIE, &[0; 64])],
+        while_closed: &[View::Write(&[9; 40]), View::Write(&[9; 33])],
+    }];
+    let answers = replay(rt.alloc(), Binary::new(3)?, 2, &[3], &turns)?;
+    assert!(rt; matches!(answers.get(0), Some(Answer::Load(Ok(1), _))));
+    assert!(rt;
+        matches!(
+            answers.get(1),
+            Some(Answer::Write(Ok(34), list)) if list.starts_with(&ONE_TIE) && list.ends_with(&[9; 6])
+        )
+    );
+    assert!(rt; matches!(answers.get(2), Some(Answer::Write(Err(_), _))));
+    Ok(())
+}
