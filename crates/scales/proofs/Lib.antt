@@ -1,2 +1,3 @@
 pub mod OddBases
+pub mod Quotients
 pub mod Twos

@@ -14,6 +14,9 @@ odd_fit s = fits (prime_mark s.base s.length) s.numbers
 pub odd_power : (s : OddBase) (digits : ℕ) {power : ℕ} → power ≡ s.base ^ digits → 0 < power
 odd_power s digits is = subst (λ (n : ℕ). 0 < n) (sym is) (one-le-pow digits s.base (omega (arith, (odd_fit s).0.base_least)))
 
+pub odd_size : (s : OddBase) → 0 < s.size
+odd_size s = odd_power s s.length s.whole
+
 -- the power of a digit that is its inverse is small
 pub odd_inverse : (s : OddBase) (unit : ℕ) → (unit % s.base) ^ (s.base - 2) < 2 ^ 32
 odd_inverse s unit =

@@ -1,4 +1,4 @@
-ghost use Rattle.std.specs.Prelude.{◌≡◌, ◌+◌, ◌*◌, ◌%◌, ◌^◌, ◌<◌, ◌≤◌};
+ghost use Rattle.std.specs.Prelude.{◌≡◌, ◌+◌, ◌*◌, ◌/◌, ◌%◌, ◌^◌, ◌<◌, ◌≤◌};
 ghost use Rattle.scales.specs.Kinds.{Numbers, longest, number, prime_mark};
 ghost use Rattle.scales.specs.Parting.{Parted};
 
@@ -17,8 +17,10 @@ pub struct OddBase {
     base: u8,
     length: u8,
     size: u32,
+    reciprocal: u64,
     ghost numbers: { Numbers (prime_mark base length) },
     ghost whole: { size ≡ base ^ length },
+    ghost rounded: { reciprocal ≡ 18446744073709551615 / size },
 }
 
 impl Counting<OddBase> {
@@ -34,7 +36,12 @@ impl Counting<OddBase> {
         }
         let size = u32::from(base).pow(u32::from(length));
         Ok(Counting {
-            digits: OddBase { base, length, size },
+            digits: OddBase {
+                base,
+                length,
+                size,
+                reciprocal: u64::MAX / u64::from(size),
+            },
         })
     }
 }
@@ -92,8 +99,16 @@ impl Digits for OddBase {
         self.size
     }
 
+    // A multiplication by the reciprocal is the quotient, or one less than it.
     fn remainder(&self, x: u64) -> u32 {
-        (x % u64::from(self.size)) as u32
+        let size = u64::from(self.size);
+        let near = ((u128::from(x) * u128::from(self.reciprocal)) >> 64) as u64;
+        let rest = x - near * size;
+        if rest < size {
+            rest as u32
+        } else {
+            (rest - size) as u32
+        }
     }
 
     // No number below the size has more than 31 zeros.
