@@ -27,7 +27,7 @@ fn dot<S: Scale>(scale: &S, a: &[u32], b: &[u32]) -> u32
 {
     let mut total = 0;
     for (x, y) in a.iter().zip(b) {
-        total = scale.sum(total, scale.product(*x, *y));
+        total = scale.add_product(total, *x, *y);
     }
     total
 }

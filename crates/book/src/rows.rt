@@ -20,7 +20,7 @@ pub fn total_at<S: Scale>(tie: &SoundTie<S>, row: &[u32]) -> u32
     let mut total = 0;
     for term in tie.tie.terms {
         let code = row[tie.layout.place(term.head, term.counter)];
-        total = tie.scale.sum(total, tie.scale.product(term.factor, code));
+        total = tie.scale.add_product(total, term.factor, code);
     }
     total
 }
@@ -50,7 +50,7 @@ pub fn add_multiple<S: Scale>(scale: &S, to: &mut [u32], from: &[u32], by: u32)
         return;
     }
     for (j, code) in to.iter_mut().enumerate() {
-        *code = scale.sum(*code, scale.product(by, from[j]));
+        *code = scale.add_product(*code, by, from[j]);
     }
 }
 

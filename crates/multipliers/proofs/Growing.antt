@@ -106,26 +106,26 @@ module _ (m : Meaning) (l : Laws m) (s : Shape) (by : ℕ) (by-is-code : Code m 
 
     -- the same, as the code computes it
     pub one_more :
-        (old cur : List ℕ) (p w v : ℕ)
+        (old cur : List ℕ) (p v : ℕ)
         → Codes m old
         → Has s (term_at ts j).head (term_at ts j).counter
         → p ≡ place s (term_at ts j).head (term_at ts j).counter
         → p < length cur
-        → w ≡ m.product (reading m by) (reading m (term_at ts j).factor)
-        → v ≡ m.sum (reading m (get_or cur p 0)) (reading m w)
+        → v ≡ m.sum (reading m (get_or cur p 0)) (m.product (reading m by) (reading m (term_at ts j).factor))
         → (length cur ≡ 32) × Codes m cur × Shares m s (share j) old cur
         → (length (set cur p v) ≡ 32) × Codes m (set cur p v) × Shares m s (share (j + 1)) old (set cur p v)
-    one_more old cur p w v oc there at inside w-is v-is inv =
+    one_more old cur p v oc there at inside v-is inv =
         let f = (term_at ts j).factor in
         let f_code : Code m f = factors j (omega arith) in
-        let w_now : w ≡ m.product by f = w-is ∙ ap₂ m.product (reading_of m l by by-is-code) (reading_of m l f f_code) in
-        let w_code : Code m w = subst (Code m) (sym w_now) (l.product_code by f by-is-code f_code) in
-        let v_now : v ≡ m.sum (get_or cur p 0) w = v-is ∙ ap₂ m.sum (reading_of m l _ (inv.1 p)) (reading_of m l w w_code) in
-        let v_code : Code m v = subst (Code m) (sym v_now) (l.sum_code _ w (inv.1 p) w_code) in
+        let v_now : v ≡ m.sum (get_or cur p 0) (m.product by f) =
+        v-is ∙ ap₂ m.sum (reading_of m l _ (inv.1 p)) (ap₂ m.product (reading_of m l by by-is-code) (reading_of m l f f_code))
+        in
+        let v_code : Code m v =
+        subst (Code m) (sym v_now) (l.sum_code _ _ (inv.1 p) (l.product_code by f by-is-code f_code)) in
         let q = place s (term_at ts j).head (term_at ts j).counter in
         let more : Shares m s (share (suc j)) old (set cur q v) =
         shares_more old cur v oc inv.1 there (subst (λ (i : ℕ). i < length cur) at inside)
-        (v_now ∙ ap₂ (λ i k. m.sum (get_or cur i 0) k) at w_now) inv.2
+        (v_now ∙ ap (λ i. m.sum (get_or cur i 0) (m.product by f)) at) inv.2
         in (
           length-set cur p v ∙ inv.0,
           codes_set m cur p v inside inv.1 v_code,
@@ -150,22 +150,19 @@ module _ (m : Meaning) (l : Laws m) (s : Shape) (e : Equation) (y : ℕ) where
       ∙ ap (m.product (reading m y)) (reading_of m l _ (power_code m l (digits m - depth s e)))
 
   pub right_is :
-      (by right w v : ℕ)
+      (by right v : ℕ)
       → by ≡ weight m s e y
       → Code m right
       → Code m e.right
-      → w ≡ m.product (reading m by) (reading m e.right)
-      → v ≡ m.sum (reading m right) (reading m w)
+      → v ≡ m.sum (reading m right) (m.product (reading m by) (reading m e.right))
       → Code m v × (v ≡ m.sum right (m.product (weight m s e y) e.right))
-  right_is by right w v by-is rc ec w-is v-is =
+  right_is by right v by-is rc ec v-is =
       let share = m.product (weight m s e y) e.right in
       let share_code : Code m share = l.product_code _ _ weight_code ec in
-      let w_now : w ≡ share =
-      w-is ∙ ap₂ m.product (ap (reading m) by-is ∙ reading_of m l _ weight_code) (reading_of m l e.right ec)
+      let share_is : m.product (reading m by) (reading m e.right) ≡ share =
+      ap₂ m.product (ap (reading m) by-is ∙ reading_of m l _ weight_code) (reading_of m l e.right ec)
       in
-      let v_now : v ≡ m.sum right share =
-      v-is ∙ ap₂ m.sum (reading_of m l right rc) (ap (reading m) w_now ∙ reading_of m l share share_code)
-      in
+      let v_now : v ≡ m.sum right share = v-is ∙ ap₂ m.sum (reading_of m l right rc) share_is in
       (subst (Code m) (sym v_now) (l.sum_code right share rc share_code), v_now)
 
 -- a term's place is within the totals

@@ -19,6 +19,6 @@ pub fn add_terms<S: Scale>(tie: &SoundTie<S>, by: u32, row: &mut [u32; 32])
 {
     for term in tie.tie.terms {
         let at = tie.layout.place(term.head, term.counter);
-        row[at] = tie.scale.sum(row[at], tie.scale.product(by, term.factor));
+        row[at] = tie.scale.add_product(row[at], by, term.factor);
     }
 }

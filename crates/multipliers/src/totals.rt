@@ -37,9 +37,7 @@ impl Totals {
     {
         let by = tie.scale.product(multiplier, tie.raise());
         add_terms(tie, by, &mut self.counters);
-        self.right = tie
-            .scale
-            .sum(self.right, tie.scale.product(by, tie.tie.right));
+        self.right = tie.scale.add_product(self.right, by, tie.tie.right);
     }
 
     // Whether every counter's total is 0 and that of the right sides is not.

@@ -36,6 +36,13 @@ pub trait Scale {
     fn product(&self, a: u32, b: u32) -> u32
         ensures { let m = meaning self.now in result ≡ m.product (reading m a) (reading m b) };
 
+    // `a` plus `b` times `c`; a scale may have a shorter way to it.
+    fn add_product(&self, a: u32, b: u32, c: u32) -> u32
+        ensures { let m = meaning self.now in result ≡ m.sum (reading m a) (m.product (reading m b) (reading m c)) }
+    {
+        self.sum(a, self.product(b, c))
+    }
+
     fn level(&self, a: u32) -> u8
         ensures { let m = meaning self.now in result ≡ m.level (reading m a) };
 

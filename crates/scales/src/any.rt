@@ -89,6 +89,14 @@ impl Scale for AnyScale {
         }
     }
 
+    fn add_product(&self, a: u32, b: u32, c: u32) -> u32 {
+        match self {
+            AnyScale::Binary(s) => s.add_product(a, b, c),
+            AnyScale::Prime(s) => s.add_product(a, b, c),
+            AnyScale::Disc(s) => s.add_product(a, b, c),
+        }
+    }
+
     fn level(&self, a: u32) -> u8 {
         match self {
             AnyScale::Binary(s) => s.level(a),

@@ -68,6 +68,12 @@ impl<D: Digits> Scale for Counting<D> {
         self.digits.remainder(u64::from(a) * u64::from(b))
     }
 
+    // One remainder serves for both: the whole is below 2^64.
+    fn add_product(&self, a: u32, b: u32, c: u32) -> u32 {
+        self.digits
+            .remainder(u64::from(a) + u64::from(b) * u64::from(c))
+    }
+
     fn level(&self, a: u32) -> u8 {
         match self.reading(a) {
             0 => self.digits.mark().length,

@@ -83,6 +83,13 @@ impl Scale for Disc {
         gray_code(self.positions.product(self.position(a), self.position(b)))
     }
 
+    fn add_product(&self, a: u32, b: u32, c: u32) -> u32 {
+        gray_code(
+            self.positions
+                .add_product(self.position(a), self.position(b), self.position(c)),
+        )
+    }
+
     fn level(&self, a: u32) -> u8 {
         self.positions.level(self.position(a))
     }

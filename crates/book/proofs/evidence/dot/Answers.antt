@@ -2,7 +2,7 @@ use Rattle.std.proofs.Common.{◌≡◌, ℕ, length, get_or, sym, ap, ◌∙◌
 use Rattle.std.proofs.lemmas.List.{length_push}
 use Rattle.std.proofs.lemmas.Slice.Zip.{zip_turn}
 use Rattle.scale.specs.Meaning.{summed}
-use Rattle.book.proofs.Filling.{sum_product_is}
+use Rattle.book.proofs.Filling.{added_is}
 use Rattle.book.proofs.evidence.dot.Goals as goal
 
 pub loop-x-preserved : goal.loop-x-preserved
@@ -20,8 +20,8 @@ loop-x-preserved g c =
     let x_is : c.in-Some.x.now ≡ get_or a j 0 = turn.2 0 in
     let y_is : c.in-Some.y.now ≡ get_or b j 0 = turn.3 0 in
     let done =
-    sum_product_is m l c.loop-x.total c.in-Some.x.now c.in-Some.y.now c.product.result c.sum-total.result
-    c.loop-x.invariant.0 (rw x_is (c.requires.codes.0 j)) (rw y_is (c.requires.codes.1 j)) c.product.ensures c.sum-total.ensures
+    added_is m l c.loop-x.total c.in-Some.x.now c.in-Some.y.now c.add_product-total.result
+    c.loop-x.invariant.0 (rw x_is (c.requires.codes.0 j)) (rw y_is (c.requires.codes.1 j)) c.add_product-total.ensures
     in (
       done.0,
       done.1

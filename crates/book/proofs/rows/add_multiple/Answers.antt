@@ -1,6 +1,6 @@
 use Rattle.std.proofs.Common.{◌<◌, length, get_or, sym, ap, ◌∙◌, arith}
 use Rattle.multipliers.proofs.Growing.{codes_set}
-use Rattle.book.proofs.Filling.{add_nothing, sum_product_is, written_more}
+use Rattle.book.proofs.Filling.{add_nothing, added_is, written_more}
 use Rattle.book.proofs.rows.add_multiple.Goals as goal
 
 pub returns-then-by-eq0 : goal.returns-then-by-eq0
@@ -25,11 +25,11 @@ loop-j-preserved g c =
     let inside : j < length cur = omega arith in
     let codes = c.loop-j.invariant.0 in
     let done =
-    sum_product_is m l _ _ _ c.product.result c.sum.result
-    (codes j) c.requires.codes.2 (c.requires.codes.1 j) c.product.ensures c.sum.ensures
+    added_is m l _ _ _ c.add_product.result
+    (codes j) c.requires.codes.2 (c.requires.codes.1 j) c.add_product.ensures
     in
     let here = c.loop-j.invariant.1.1 j (omega arith) in (
-      codes_set m cur j c.sum.result inside codes done.0,
-      written_more j _ c.args.to.now cur c.sum.result inside
+      codes_set m cur j c.add_product.result inside codes done.0,
+      written_more j _ c.args.to.now cur c.add_product.result inside
           (done.1 ∙ ap (λ a. m.sum a (m.product c.args.by (get_or c.args.from.now j 0))) here) c.loop-j.invariant.1,
     )

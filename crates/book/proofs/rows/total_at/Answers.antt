@@ -4,7 +4,7 @@ use Rattle.ties.specs.Equations.{code_at, term_at}
 use Rattle.ties.specs.Layouts.{shape}
 use Rattle.ties.proofs.Places.{place_below}
 use Rattle.book.specs.Rows.{row_of}
-use Rattle.book.proofs.Filling.{sum_product_is}
+use Rattle.book.proofs.Filling.{added_is}
 use Rattle.book.proofs.rows.total_at.Goals as goal
 
 pub bounds-row-place : goal.bounds-row-place
@@ -22,13 +22,13 @@ loop-term-preserved g c =
     let row = c.args.row.now in
     let x : ℕ = get_or row c.place.result 0 in
     let done =
-    sum_product_is m l c.loop-term.total t.factor x c.product.result c.sum-total.result
+    added_is m l c.loop-term.total t.factor x c.add_product-total.result
     c.loop-term.invariant.0 ((c.args.tie.now.sound.codes i (omega (arith, c.loop-term-test.true))).0 c.loop-term-test.true) (c.requires.codes c.place.result)
-    c.product.ensures c.sum-total.ensures
+    c.add_product-total.ensures
     in
     let is : x ≡ code_at (row_of s row) t = ap (λ p. get_or row p 0) c.place.ensures in
     let F : ℕ → ℕ = λ k. m.product (term_at c.args.tie.now.tie.terms.now k).factor (code_at (row_of s row) (term_at c.args.tie.now.tie.terms.now k)) in
-    let more : c.sum-total.result ≡ summed m (i + 1) F =
+    let more : c.add_product-total.result ≡ summed m (i + 1) F =
     done.1 ∙ ap₂ (λ a b. m.sum a (m.product t.factor b)) c.loop-term.invariant.1 is ∙ ap (λ n. summed m n F) (sym (add-one i))
     in
     (done.0, more)

@@ -21,16 +21,16 @@ loop-term-preserved g c =
       length-set _ _ _ ∙ c.loop-term.invariant.0,
       λ i h.
           let below = place_below (shape tie.layout.now) _ _ there in
-          get_or-set_other c.loop-term.row c.place-at.result i c.sum.result 0 (λ e. omega (arith, h, below, c.place-at.ensures, e))
+          get_or-set_other c.loop-term.row c.place-at.result i c.add_product.result 0 (λ e. omega (arith, h, below, c.place-at.ensures, e))
           ∙ c.loop-term.invariant.1 i h,
       λ by codes.
           let more =
           one_more m l (shape tie.layout.now) c.args.by by tie.tie.terms.now j
           (λ i k. (tie.sound.codes i (omega (arith, c.loop-term-test.true))).0 (omega (arith, c.loop-term-test.true)))
-          c.args.row.now c.loop-term.row c.place-at.result c.product.result c.sum.result
+          c.args.row.now c.loop-term.row c.place-at.result c.add_product.result
           codes there c.place-at.ensures
           (inside tie.layout.now _ _ _ _ there c.place-at.ensures c.loop-term.invariant.0)
-          c.product.ensures c.sum.ensures
+          c.add_product.ensures
           (c.loop-term.invariant.0, (c.loop-term.invariant.2 by codes).0, (c.loop-term.invariant.2 by codes).1) in
           (more.1, more.2),
     )

@@ -22,7 +22,7 @@ returns g c =
     let by = weight_is m l s e c.args.multiplier _ _ _ refl c.raise.ensures c.product-by.ensures in
     let right_code = (tie.sound.codes (length e.terms) (omega arith)).1 refl in
     let right =
-    right_is m l s e c.args.multiplier _ _ _ _ by c.requires.1 right_code c.product.ensures c.sum-self.ensures in
+    right_is m l s e c.args.multiplier _ _ _ by c.requires.1 right_code c.add_product-self.ensures in
     let shares =
     subst (λ (b : ℕ). Shares m s (λ h k. m.product b (factor_at m e.terms h k)) old.counters new) by
     (c.add_terms.ensures.added code c.requires.0) in
