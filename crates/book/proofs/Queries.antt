@@ -105,14 +105,19 @@ module _ (m : Meaning) (l : Laws m) (s : Shape) (t : Table) (within : Within m s
                 exact = stands_exact m l s t within stands;
               };
           at_point = is;
-          most = most;
-          agree =
-              apart r.settled (omega arith)
-              (λ i h. subst (λ (a : ℕ). r.settled ≤ m.level a) (totals.each i h) (least.each i (omega (arith, totals.count))));
-          greatest = λ k h settles.
-              least.greatest k h
-              (λ i b.
-              let inside : i < places s = omega (arith, totals.count) in
-              subst (λ (a : ℕ). k ≤ m.level a) (sym (totals.each i inside)) (each_total k settles i inside)
-              );
+          settled =
+              record {
+                most = most;
+                agree =
+                    apart r.settled (omega arith)
+                    (λ i h.
+                    subst (λ (a : ℕ). r.settled ≤ m.level a) (totals.each i h) (least.each i (omega (arith, totals.count)))
+                    );
+                greatest = λ k h settles.
+                    least.greatest k h
+                    (λ i b.
+                    let inside : i < places s = omega (arith, totals.count) in
+                    subst (λ (a : ℕ). k ≤ m.level a) (sym (totals.each i inside)) (each_total k settles i inside)
+                    );
+              };
         }

@@ -16,16 +16,20 @@ abbrev pub Settles : Meaning → Shape → List Equation → Equation → ℕ �
 Settles m s es e k =
     (x y : Assignment) → Solves m s es x → Solves m s es y → k ≤ m.level (less m (value m e x) (value m e y))
 
--- an equation e is queried where the equations es stand, with their whole sheet xs: the value is the one at its point,
--- and settled is the greatest k up to e's depth such that the values at any two solutions of es differ by level k or more
+-- v digits of the value of an equation e are settled where the equations es stand: v is the greatest k up to e's depth
+-- such that the values at any two solutions of es differ by level k or more
+pub record SettledDigits (m : Meaning) (s : Shape) (es : List Equation) (e : Equation) (v : ℕ) : Type 0 where
+  pub most : v ≤ depth s e
+  pub agree : Settles m s es e v
+  pub greatest : (k : ℕ) → k ≤ depth s e → Settles m s es e k → k ≤ v
+
+-- an equation e is queried where the equations es stand, with their whole sheet xs: the value is the one at its point
 pub record Queried (m : Meaning) (s : Shape) (es : List Equation) (xs : List ℕ) (e : Equation) (r : Reading) : Type 0
   where
     pub sound : Sound m s e
     pub whole : Whole m s es xs
     pub at_point : r.value ≡ value m e (point_of s xs)
-    pub most : r.settled ≤ depth s e
-    pub agree : Settles m s es e r.settled
-    pub greatest : (k : ℕ) → k ≤ depth s e → Settles m s es e k → k ≤ r.settled
+    pub settled : SettledDigits m s es e r.settled
 
 -- the same of a book; a tie that has a fault is refused with it
 module _ {S : Type 0} (meaning : S → Meaning) (b : Held S) (e : Equation) where

@@ -2,7 +2,7 @@
 use Rattle.std.specs.Prelude.{◌≡◌, ℕ, ◌<◌, ◌≤◌, List, [], ◌∷◌, length, take, replicate, Some, None, Ok, Err, Option, Result, slice_index}
 use Rattle.scale.specs.Meaning.{Meaning}
 use Rattle.scales.specs.Kinds.{Numbers, named}
-use Rattle.ties.specs.Layouts.{Assignment, Has, Shape, Sized, Within, counters_of, place, width_of}
+use Rattle.ties.specs.Layouts.{Assignment, Has, Shape, Sized, Within, counters_of, place}
 use Rattle.ties.specs.Equations.{Count, Equation, Solves, nth_equation}
 use Rattle.ties.specs.Faults.{BadLayout}
 use Rattle.tie_file.specs.Table.{WellFormed}
@@ -10,7 +10,7 @@ use Rattle.tie_file.specs.Bodies.{file_mark, file_shape}
 use Rattle.tie_file.specs.Reading.{Bad}
 use Rattle.book.specs.declared.fault.Stop.{Stop}
 use Rattle.book.specs.Posting.{Accepted, PostStopped}
-use Rattle.book.specs.Querying.{Settles}
+use Rattle.book.specs.Querying.{SettledDigits}
 use Rattle.report.specs.declared.answer.Report.{Report}
 use Rattle.report.specs.declared.fault.ReportFault.{ReportFault}
 use Rattle.report.specs.declared.fault.ReportFault.TheVariants.{File, Scale, Layout, Memory}
@@ -39,12 +39,9 @@ stop_of (Err stop) = Some stop
 abbrev pub own : Meaning → ℕ → ℕ → Equation
 own m h c = record { target = c; right = 0; terms = record { head = h; counter = c; factor = m.one } ∷ [] }
 
--- n digits of the code of counter c of head h are settled where the equations es stand: n is the greatest number up to
--- its width such that the codes at any two assignments that meet them differ by level n or more
-pub record SettledAt (m : Meaning) (s : Shape) (es : List Equation) (h c n : ℕ) : Type 0 where
-  pub most : n ≤ width_of s c
-  pub agree : Settles m s es (own m h c) n
-  pub greatest : (k : ℕ) → k ≤ width_of s c → Settles m s es (own m h c) k → k ≤ n
+-- n digits of the code of counter c of head h are settled where the equations es stand
+abbrev pub SettledAt : Meaning → Shape → List Equation → ℕ → ℕ → ℕ → Type 0
+SettledAt m s es h c = SettledDigits m s es (own m h c)
 
 -- what a report says of the digits: exactly q^F assignments meet the equations, where F is the number of free digits, and
 -- each counter of the shape has its settled digits at its place

@@ -4,5 +4,4 @@ use Rattle.report.proofs.settling.settled_at.Goals as goal
 pub returns : goal.returns
 returns g c =
     let known = MatchResult-at_ok _ _ _ c.unwrap.ensures c.query.ensures in
-    let queried = rw (c.one.ensures, c.scale.ensures) at known in
-    record { most = queried.most; agree = queried.agree; greatest = queried.greatest }
+    let queried = rw (c.one.ensures, c.scale.ensures) at known in queried.settled
