@@ -6,7 +6,7 @@ mod Exactness
 pub mod Faultless
 pub mod Filling
 mod Posts
-mod Loads
+pub mod Loads
 mod Queries
 mod Refuting
 mod Returning

@@ -9,7 +9,6 @@ use Rattle.book.specs.Held.{Held}
 use Rattle.book.specs.declared.fault.LoadFault.{LoadFault}
 use Rattle.book.specs.declared.fault.LoadFault.TheVariants.{File, Mark, List as Short, Tie}
 use Rattle.book.specs.declared.fault.PostFault.{PostFault}
-use Rattle.book.specs.declared.fault.Stop.{Stop}
 use Rattle.tie_file.specs.Bodies.{equations}
 use Rattle.book.specs.Loading.{Grown, LoadListed, LoadStopped, RefusedAt, Taken, loaded_of}
 use Rattle.book.specs.Posting.{Accepted, Listed, Listing, Posted, PostStopped, PostedTo}
@@ -106,20 +105,20 @@ grown meaning first fs n b sofar =
 
 -- a post that is refused, and what is said of its fault; and one that is not
 pub refused :
-    (r : Result ℕ PostFault) (g : Stop) (K : PostFault → Type 0)
-    → MatchResult r (λ x. ◌≡◌ {A = Result ℕ Stop} (Err g) (Ok x)) K
+    {G : Type 0} (r : Result ℕ PostFault) (g : G) (K : PostFault → Type 0)
+    → MatchResult r (λ x. ◌≡◌ {A = Result ℕ G} (Err g) (Ok x)) K
     → false ≡ is_ok r
     → (e : PostFault) × (r ≡ Err e) × K e
 refused (Ok x) g K cases none = absurd (clash none)
 refused (Err e) g K cases none = (e, refl, cases)
 
 pub accepted :
-    (r : Result ℕ PostFault) (n : ℕ) (K : PostFault → Type 0)
-    → MatchResult r (λ x. ◌≡◌ {A = Result ℕ Stop} (Ok n) (Ok x)) K
+    (G : Type 0) (r : Result ℕ PostFault) (n : ℕ) (K : PostFault → Type 0)
+    → MatchResult r (λ x. ◌≡◌ {A = Result ℕ G} (Ok n) (Ok x)) K
     → true ≡ is_ok r
     → (x : ℕ) × (r ≡ Ok x)
-accepted (Ok x) n K cases some = (x, refl)
-accepted (Err e) n K cases some = absurd (clash (sym some))
+accepted G (Ok x) n K cases some = (x, refl)
+accepted G (Err e) n K cases some = absurd (clash (sym some))
 
 -- a load that is stopped before its first tie leaves book and list as they were
 pub unloaded :

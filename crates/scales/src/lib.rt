@@ -13,6 +13,8 @@ mod prime;
 
 pub use any::AnyScale;
 pub use binary::Binary;
+pub use counting::Counting;
+pub use digits::{Digits, Parts};
 pub use disc::Disc;
 pub use fault::ScaleFault;
 pub use kind::Kind;

@@ -4,6 +4,7 @@ use Rattle.std.proofs.lemmas.Option.{MatchOption-at_some}
 use Rattle.ties.specs.Equations.{nth_equation}
 use Rattle.tie_file.specs.Bodies.{equations}
 use Rattle.tie_file.proofs.WellFormed.{equations_length}
+use Rattle.book.specs.declared.fault.Stop.{Stop}
 use Rattle.book.specs.Posting.{Listed, Posted, PostedTo}
 use Rattle.book.proofs.Loads.{accepted, grown, refused, refused_at, sofar_more, taken}
 use Rattle.book.proofs.book.loading.Book+S+Open.post_all.Goals as goal
@@ -43,7 +44,7 @@ loop-i-preserved g c =
     let fs = equations c.args.file.now in
     let i = c.loop-i.i-counter in
     let b = c.loop-i.self in
-    let on = accepted c.post.result _ _ c.in_ok-map_err.ensures.cases c.in_ok-map_err.ensures.variant in
+    let on = accepted Stop c.post.result _ _ c.in_ok-map_err.ensures.cases c.in_ok-map_err.ensures.variant in
     let is = c.tie-in-loop-i.ensures ∙ (MatchOption-at_some _ _ _ c.unwrap-tie.ensures c.tie.ensures).1 in
     let inside : i < length fs = omega (arith, equations_length c.args.file.now, c.ties-i-end.ensures, c.loop-i-test.true) in
     let answer : PostedTo meaning b (nth_equation fs i) c.loop-i.multipliers (Ok on.0) = rw (is, on.1) at c.post.ensures.answer in

@@ -1,0 +1,5 @@
+pub mod Groups
+pub mod Maps
+pub mod Equations
+pub mod Faults
+pub mod Solving
