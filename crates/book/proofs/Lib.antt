@@ -11,5 +11,6 @@ mod Queries
 mod Refuting
 mod Returning
 mod Sheeted
+mod Writes
 mod Spots
 mod Steps

@@ -10,8 +10,9 @@ use Rattle.ties.specs.Equations.{Equation, nth_equation}
 use Rattle.ties.specs.Layouts.{Shape, counters_of}
 use Rattle.tie_file.specs.Table.{TieLength, body_at, byte, end_before, entries, extent_at, kind_at, start_at, word}
 use Rattle.tie_file.specs.Bodies.{equation_of, long, mark_of, shape_of, term_in, terms_in}
-use Rattle.tie_file.specs.Writing.{Bytes, States, tie_size}
+use Rattle.tie_file.specs.Writing.{Bytes, States, file_size, tie_size, ties_end}
 use Rattle.tie_file.proofs.Bytes.{part_byte}
+use Rattle.tie_file.proofs.Laying.{ends_more}
 use Rattle.tie_file.proofs.WellFormed.{body_length, entry_there, equations_at, equations_length, layout_whole, tie_whole}
 
 -- a number of several bytes tells each of them
@@ -163,6 +164,24 @@ module _ (k : Mark) (s : Shape) (es : List Equation) (f : List ℕ) (is : States
       let terms = ap (λ (e : Equation). length e.terms) (equation_stated i h) in
       let count = length-map-range_with_len (term_in b) 0 (terms_in b) in
       omega (arith, fits.2, terms, count)
+
+  -- where its entries end, and so how long it is
+  entry_ends : (i : ℕ) → i ≤ length es → end_before f (suc i) ≡ ties_end s es i
+  entry_ends zero h =
+      let start = is.formed.entries.gapless 0 (omega (arith, count_stated)) in
+      let extent = sym (body_long 0 h) ∙ layout_fits.0 in
+      omega (arith, start, extent, count_stated)
+  entry_ends (suc i) h =
+      let before = entry_ends i (omega (arith, h)) in
+      let start = is.formed.entries.gapless (suc i) (omega (arith, h, count_stated)) in
+      let extent = sym (body_long (suc i) h) ∙ tie_long i (omega (arith, h)) in
+      let more = ends_more s es i (omega (arith, h)) in
+      let one : i + 1 ≡ suc i = omega arith in
+      omega (arith, before, start, extent, more, ap (ties_end s es) one)
+
+  pub long_stated : length f ≡ file_size s es
+  long_stated =
+      sym (ap (end_before f) (sym count_stated) ∙ is.formed.entries.ends) ∙ entry_ends (length es) (omega arith)
 
 module _ (k : Mark) (s : Shape) (es : List Equation) (f g : List ℕ) (bf : Bytes f) (bg : Bytes g) (is : States k s es f) (are : States k s es g)
   where

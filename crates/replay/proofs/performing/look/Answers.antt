@@ -36,6 +36,6 @@ returns-in_ok-list-in-Write g c =
     (c.write-answer.auto.list ∙ c.deref_mut-in-Write.ensures.len)
     in
     let written =
-    subst₂ (λ (ys zs : List ℕ). MatchResult r (WrittenFrom meaning b ys zs) (λ _. WriteStopped b ys zs)) handed (sym held) c.write-answer.ensures
+    subst₂ (λ (ys zs : List ℕ). MatchResult r (WrittenFrom meaning b ys zs) (λ _. WriteStopped b ys zs)) handed (sym held) c.write-answer.ensures.answer
     in
     rw c.in-Write.is (write_step meaning b c.in-Write.bytes r v written)
