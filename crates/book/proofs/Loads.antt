@@ -16,17 +16,19 @@ use Rattle.book.specs.Standing.{ledger}
 
 -- of the books from the first on, this one is that in which the first i of the equations fs stand too, each accepted
 -- behind the ones before it
-pub record Sofar {S : Type 0} (meaning : S → Meaning) (first : Held S) (fs : List Equation) (i : ℕ) (b : Held S) : Type 0 where
-  pub same_scale : b.scale ≡ first.scale
-  pub same_layout : b.layout ≡ first.layout
-  pub stand : ledger b.table ≡ ledger first.table ++ take i fs
-  pub accepted :
-      (j : ℕ)
-      → j < i
-      → (fixed : ℕ) × Accepted (meaning first.scale) (shape first.layout) (ledger first.table ++ take j fs) (nth_equation fs j) fixed
-  pub steady : i ≡ 0 → b ≡ first
+pub record Sofar {S : Type 0} (meaning : S → Meaning) (first : Held S) (fs : List Equation) (ys : List ℕ) (i : ℕ) (b : Held S) : Type 0
+  where
+    pub same_scale : b.scale ≡ first.scale
+    pub same_layout : b.layout ≡ first.layout
+    pub stand : ledger b.table ≡ ledger first.table ++ take i fs
+    pub accepted :
+        (j : ℕ)
+        → j < i
+        → (fixed : ℕ) × Accepted (meaning first.scale) (shape first.layout) (ledger first.table ++ take j fs) (nth_equation fs j) fixed
+    pub steady : i ≡ 0 → b ≡ first
+    pub listed : 1 ≤ i → 64 ≤ length ys
 
-module _ {S : Type 0} (meaning : S → Meaning) (first : Held S) (fs : List Equation) where
+module _ {S : Type 0} (meaning : S → Meaning) (first : Held S) (fs : List Equation) (ys : List ℕ) where
   abbrev m : Meaning
   m = meaning first.scale
 
@@ -39,7 +41,7 @@ module _ {S : Type 0} (meaning : S → Meaning) (first : Held S) (fs : List Equa
   -- what is said of the book is said of the scale and the layout of the first, and of the equations that stand by then
   pub said :
       (P : Meaning → Shape → List Equation → Type 0) (i : ℕ) (b : Held S)
-      → Sofar meaning first fs i b
+      → Sofar meaning first fs ys i b
       → P (meaning b.scale) (shape b.layout) (ledger b.table)
       → P m s (stood i)
   said P i b sofar p =
@@ -49,13 +51,13 @@ module _ {S : Type 0} (meaning : S → Meaning) (first : Held S) (fs : List Equa
 
   -- one more is accepted
   pub sofar_more :
-      (i : ℕ) (b c : Held S) (fixed : ℕ) (ys : List ℕ)
+      (i : ℕ) (b c : Held S) (fixed : ℕ)
       → i < length fs
-      → Sofar meaning first fs i b
+      → Sofar meaning first fs ys i b
       → PostedTo meaning b (nth_equation fs i) ys (Ok fixed)
       → Posted meaning b (nth_equation fs i) (Ok fixed) c
-      → Sofar meaning first fs (i + 1) c
-  sofar_more i b c fixed ys h sofar answered posted =
+      → Sofar meaning first fs ys (i + 1) c
+  sofar_more i b c fixed h sofar answered posted =
       record {
         same_scale = posted.0 ∙ sofar.same_scale;
         same_layout = posted.1 ∙ sofar.same_layout;
@@ -68,39 +70,40 @@ module _ {S : Type 0} (meaning : S → Meaning) (first : Held S) (fs : List Equa
             below_more (λ j. (fixed : ℕ) × Accepted m s (stood j) (nth_equation fs j) fixed) i sofar.accepted
             (fixed, said (λ k l q. Accepted k l q (nth_equation fs i) fixed) i b sofar answered.1);
         steady = λ none. absurd (omega (arith, none));
+        listed = λ some. answered.0;
       }
 
   -- so the first i are accepted
-  pub taken : (i : ℕ) (b : Held S) → i ≤ length fs → Sofar meaning first fs i b → Taken m s (ledger first.table) fs i
-  taken i b most sofar = record { most = most; accepted = sofar.accepted }
+  pub taken : (i : ℕ) (b : Held S) → i ≤ length fs → Sofar meaning first fs ys i b → Taken m s (ledger first.table) fs ys i
+  taken i b most sofar = record { most = most; listed = sofar.listed; accepted = sofar.accepted }
 
   -- it is refused, and the book is as it was
   pub refused_at :
-      (i : ℕ) (b c : Held S) (e : PostFault) (ys new : List ℕ)
+      (i : ℕ) (b c : Held S) (e : PostFault) (new : List ℕ)
       → i < length fs
-      → Sofar meaning first fs i b
+      → Sofar meaning first fs ys i b
       → PostedTo meaning b (nth_equation fs i) ys (Err e)
       → Posted meaning b (nth_equation fs i) (Err e) c
       → Listed meaning b (nth_equation fs i) (Err e) ys new
       → RefusedAt m s (ledger first.table) fs ys i e
-      × Sofar meaning first fs i c
+      × Sofar meaning first fs ys i c
       × Listing m s (stood i) (nth_equation fs i) (Err e) ys new
-  refused_at i b c e ys new h sofar answered same listed = (
+  refused_at i b c e new h sofar answered same listed = (
     record {
       taken = taken i b (omega (arith, h)) sofar;
       inside = h;
       stopped = said (λ k l q. PostStopped k l q (nth_equation fs i) ys e) i b sofar answered;
     },
-    subst (Sofar meaning first fs i) (sym same) sofar,
+    subst (Sofar meaning first fs ys i) (sym same) sofar,
     said (λ k l q. Listing k l q (nth_equation fs i) (Err e) ys new) i b sofar listed,
   )
 
 -- where a book has so far taken the first n, it has grown by them
 pub grown :
-    {S : Type 0} (meaning : S → Meaning) (first : Held S) (fs : List Equation) (n : ℕ) (b : Held S)
-    → Sofar meaning first fs n b
+    {S : Type 0} (meaning : S → Meaning) (first : Held S) (fs : List Equation) (ys : List ℕ) (n : ℕ) (b : Held S)
+    → Sofar meaning first fs ys n b
     → Grown first fs n b
-grown meaning first fs n b sofar =
+grown meaning first fs ys n b sofar =
     record { same_scale = sofar.same_scale; same_layout = sofar.same_layout; stand = sofar.stand; steady = sofar.steady }
 
 -- a post that is refused, and what is said of its fault; and one that is not

@@ -14,21 +14,23 @@ use Rattle.book.specs.Held.{Held}
 use Rattle.book.specs.Posting.{Accepted, Listing, PostStopped}
 use Rattle.book.specs.Standing.{ledger}
 
--- the first n of these ties are accepted where others stand, each behind the ones before it
-pub record Taken (m : Meaning) (s : Shape) (es fs : List Equation) (n : ℕ) : Type 0 where
+-- the first n of these ties are accepted where others stand, each behind the ones before it, and the list is long enough
+-- for that
+pub record Taken (m : Meaning) (s : Shape) (es fs : List Equation) (ys : List ℕ) (n : ℕ) : Type 0 where
   pub most : n ≤ length fs
+  pub listed : 1 ≤ n → 64 ≤ length ys
   pub accepted : (i : ℕ) → i < n → (fixed : ℕ) × Accepted m s (es ++ take i fs) (nth_equation fs i) fixed
 
 -- the first n are, and the next is refused
 pub record RefusedAt (m : Meaning) (s : Shape) (es fs : List Equation) (ys : List ℕ) (n : ℕ) (f : PostFault) : Type 0 where
-  pub taken : Taken m s es fs n
+  pub taken : Taken m s es fs ys n
   pub inside : n < length fs
   pub stopped : PostStopped m s (es ++ take n fs) (nth_equation fs n) ys f
 
 -- ties are posted in order until one is refused: the answer is how many there are, or which is refused and why
 abbrev pub AllAnswered : Meaning → Shape → List Equation → List Equation → List ℕ → Result ℕ Stop → Type 0
 AllAnswered m s es fs ys r =
-    MatchResult r (λ n. (n ≡ length fs) × Taken m s es fs n) (λ stop. RefusedAt m s es fs ys stop.tie stop.fault)
+    MatchResult r (λ n. (n ≡ length fs) × Taken m s es fs ys n) (λ stop. RefusedAt m s es fs ys stop.tie stop.fault)
 
 -- how many of them are accepted
 abbrev pub accepted_of : Result ℕ Stop → ℕ
@@ -59,7 +61,7 @@ LoadStopped m s es f ys (Tie i g) = Loadable m s f × (64 ≤ length ys) × Refu
 abbrev pub LoadAnswered : Meaning → Shape → List Equation → List ℕ → List ℕ → Result ℕ LoadFault → Type 0
 LoadAnswered m s es f ys r =
     MatchResult r
-    (λ n. Loadable m s f × (64 ≤ length ys) × (n ≡ length (equations f)) × Taken m s es (equations f) n)
+    (λ n. Loadable m s f × (64 ≤ length ys) × (n ≡ length (equations f)) × Taken m s es (equations f) ys n)
     (LoadStopped m s es f ys)
 
 -- how many of its ties are accepted, and what its list then holds: a load that is stopped before its first tie accepts

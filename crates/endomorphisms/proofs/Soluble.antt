@@ -180,8 +180,8 @@ module _ (m : Meaning) (l : Laws m) (s : Shape) where
               (solves_meets x solves i (omega (arith, h)) (sound i below)))),
         )
 
-    pub taken_sound : (n : ℕ) → Taken m s [] fs n → (i : ℕ) → i < n → Sound m s (nth_equation fs i)
-    taken_sound n taken i h = (taken.accepted i h).1.sound
+    pub taken_sound : (ys : List ℕ) (n : ℕ) → Taken m s [] fs ys n → (i : ℕ) → i < n → Sound m s (nth_equation fs i)
+    taken_sound ys n taken i h = (taken.accepted i h).1.sound
 
     -- all ties of a table over the group are sound
     pub all_sound : All (OverGroup m s) es → (i : ℕ) → i < length fs → Sound m s (nth_equation fs i)

@@ -46,7 +46,7 @@ module _ (m : Meaning) (l : Laws m) (s : Shape) (es : List GroupEquation) where
       subst (PostStopped m s (take n fs) (nth_equation fs n) ys) e refused.stopped
       in
       insoluble m l s es n refused.inside
-      (below_more (λ i. Sound m s (nth_equation fs i)) n (taken_sound m l s es n refused.taken) stopped.1) stopped.3
+      (below_more (λ i. Sound m s (nth_equation fs i)) n (taken_sound m l s es ys n refused.taken) stopped.1) stopped.3
 
   pub tie_stopped :
       (p : Stop) (ys xs : List ℕ)
@@ -86,12 +86,12 @@ module _ (m : Meaning) (l : Laws m) (s : Shape) (es : List GroupEquation) where
       → Drawn m s fs old new f
       → Solved m s es ys old new f
   solved ys old new f sized within answered drawn =
-      let same = solves_same m l s es (taken_sound m l s es (length fs) answered.0) in
+      let same = solves_same m l s es (taken_sound m l s es ys (length fs) answered) in
       let some : 0 < length drawn.count.list = omega (arith, drawn.count.number, power_pos (base m) f l.base_least) in
       record {
         sized = sized;
         within = within;
-        room = answered.1;
+        room = answered.listed;
         some = (nth drawn.count.list 0, (same (nth drawn.count.list 0)).0 (drawn.count.solve 0 some));
         same = same;
         drawn = drawn;

@@ -19,18 +19,11 @@ use Rattle.endomorphisms.specs.Equations.{GroupEquation, Insoluble, OverGroup, S
 abbrev pub tie_number : Shape → Stop → ℕ
 tie_number s p = p.equation * counters_of s + p.counter
 
--- where some tie is accepted, the list of multipliers is long enough
-abbrev pub Roomy : List ℕ → ℕ → Type 0
-Roomy ys n = 0 < n → 64 ≤ length ys
-
 -- the ties of a table are posted in order where others stand, until one is refused
 abbrev pub TableAnswered : Meaning → Shape → List Equation → List Equation → List ℕ → Result Unit Stop → Type 0
 TableAnswered m s es fs ys r =
-    MatchResult r (λ _. Taken m s es fs (length fs) × Roomy ys (length fs))
-    (λ p.
-    (p.counter < counters_of s)
-    × RefusedAt m s es fs ys (tie_number s p) p.fault
-    × Roomy ys (tie_number s p))
+    MatchResult r (λ _. Taken m s es fs ys (length fs))
+    (λ p. (p.counter < counters_of s) × RefusedAt m s es fs ys (tie_number s p) p.fault)
 
 -- how many of them are accepted
 abbrev pub taken_of : Shape → List Equation → Result Unit Stop → ℕ
@@ -48,7 +41,7 @@ TableListing m s es fs (Err p) old new =
 pub record Solved (m : Meaning) (s : Shape) (es : List GroupEquation) (ys old new : List ℕ) (f : ℕ) : Type 0 where
   pub sized : Sized s
   pub within : Within m s
-  pub room : Roomy ys (length (ties_of s es))
+  pub room : 1 ≤ length (ties_of s es) → 64 ≤ length ys
   pub some : (x : Assignment) × SolvesTable m s es x
   pub same : (x : Assignment) → Solves m s (ties_of s es) x ↔ SolvesTable m s es x
   pub drawn : Drawn m s (ties_of s es) old new f

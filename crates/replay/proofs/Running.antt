@@ -149,10 +149,10 @@ ill f Body bad formed = bad.2 formed.bodies
 
 -- what a load answers tells how many of the file's ties fit
 module _ (m : Meaning) (s : Shape) (es fs : List Equation) (ys : List ℕ) where
-  fits_each : (n : ℕ) → 64 ≤ length ys → Taken m s es fs n → (i : ℕ) → i < n → Fits m s (es ++ take i fs) (nth_equation fs i) ys
+  fits_each : (n : ℕ) → 64 ≤ length ys → Taken m s es fs ys n → (i : ℕ) → i < n → Fits m s (es ++ take i fs) (nth_equation fs i) ys
   fits_each n enough taken i h = fit m s (es ++ take i fs) (nth_equation fs i) ys _ enough (taken.accepted i h).1
 
-  fill_all : (n : ℕ) → 64 ≤ length ys → n ≡ length fs → Taken m s es fs n → Fill m s es fs ys n
+  fill_all : (n : ℕ) → 64 ≤ length ys → n ≡ length fs → Taken m s es fs ys n → Fill m s es fs ys n
   fill_all n enough all taken = record { most = taken.most; fit = fits_each n enough taken; end = inl all }
 
   fill_some : (n : ℕ) (f : PostFault) → 64 ≤ length ys → RefusedAt m s es fs ys n f → Fill m s es fs ys n

@@ -19,7 +19,7 @@ solvable m l s es f count =
 
 module _ (m : Meaning) (s : Shape) (fs : List Equation) where
   -- the ties that stand were accepted one behind the other, and where posting stopped
-  stood : (r : Result ℕ Stop) → AllAnswered m s [] fs (replicate 64 0) r → Taken m s [] fs (accepted_of r)
+  stood : (r : Result ℕ Stop) → AllAnswered m s [] fs (replicate 64 0) r → Taken m s [] fs (replicate 64 0) (accepted_of r)
   stood (Ok n) answer = answer.1
   stood (Err stop) answer = answer.taken
 

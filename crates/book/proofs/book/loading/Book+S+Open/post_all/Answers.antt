@@ -29,12 +29,12 @@ returns-in_err-map_err g c =
     let listed : Listed meaning b (nth_equation fs i) (Err e) ys c.post.new.multipliers =
     rw (is, c.loop-i.invariant.1, stop.1) at c.post.ensures.list in
     let done =
-    refused_at meaning first fs i b c.post.new.self e ys c.post.new.multipliers inside c.loop-i.invariant.0 answer posted listed
+    refused_at meaning first fs ys i b c.post.new.self e c.post.new.multipliers inside c.loop-i.invariant.0 answer posted listed
     in
     rw (p.1 ∙ ap Err (p.2 ∙ named))
     (record {
       answer = done.0;
-      book = grown meaning first fs i _ done.1;
+      book = grown meaning first fs ys i _ done.1;
       list = done.2;
     })
 
@@ -44,15 +44,16 @@ loop-i-preserved g c =
     let fs = equations c.args.file.now in
     let i = c.loop-i.i-counter in
     let b = c.loop-i.self in
+    let ys = c.args.multipliers.now in
     let on = accepted Stop c.post.result _ _ c.in_ok-map_err.ensures.cases c.in_ok-map_err.ensures.variant in
     let is = c.tie-in-loop-i.ensures ∙ (MatchOption-at_some _ _ _ c.unwrap-tie.ensures c.tie.ensures).1 in
     let inside : i < length fs = omega (arith, equations_length c.args.file.now, c.ties-i-end.ensures, c.loop-i-test.true) in
-    let answer : PostedTo meaning b (nth_equation fs i) c.loop-i.multipliers (Ok on.0) = rw (is, on.1) at c.post.ensures.answer in
+    let answer : PostedTo meaning b (nth_equation fs i) ys (Ok on.0) = rw (is, c.loop-i.invariant.1, on.1) at c.post.ensures.answer in
     let posted : Posted meaning b (nth_equation fs i) (Ok on.0) c.post.new.self = rw (is, on.1) at c.post.ensures.book in
     let kept : Listed meaning b (nth_equation fs i) (Ok on.0) c.loop-i.multipliers c.post.new.multipliers =
     rw (is, on.1) at c.post.ensures.list
     in (
-      sofar_more meaning c.args.self.now fs i b c.post.new.self on.0 c.loop-i.multipliers inside c.loop-i.invariant.0 answer posted,
+      sofar_more meaning c.args.self.now fs ys i b c.post.new.self on.0 inside c.loop-i.invariant.0 answer posted,
       kept ∙ c.loop-i.invariant.1,
     )
 
@@ -61,13 +62,14 @@ returns g c =
     let meaning = g.S.Scale.meaning in
     let first = c.args.self.now in
     let fs = equations c.args.file.now in
+    let ys = c.args.multipliers.now in
     let end : c.loop-i.i-counter ≡ c.ties.result =
     omega (arith, c.loop-i.auto.i-counter-end, c.loop-i-test.false, c.ties.ensures, c.ties-i-end.ensures)
     in
     let all : c.ties.result ≡ length fs = omega (arith, equations_length c.args.file.now, c.ties.ensures) in
     let sofar = rw end at c.loop-i.invariant.0 in
     record {
-      answer = (all, taken meaning first fs c.ties.result c.loop-i.self (omega (arith, all)) sofar);
-      book = grown meaning first fs c.ties.result c.loop-i.self sofar;
+      answer = (all, taken meaning first fs ys c.ties.result c.loop-i.self (omega (arith, all)) sofar);
+      book = grown meaning first fs ys c.ties.result c.loop-i.self sofar;
       list = c.loop-i.invariant.1;
     }
