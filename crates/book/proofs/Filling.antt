@@ -3,7 +3,7 @@ use Rattle.std.proofs.Common.{◌≡◌, ℕ, zero, suc, ◌+◌, ◌<◌, ◌�
 use borrow.Rule.Slice.PartMut.{put_mid}
 use lib.Seq.{take-append_seam}
 use Rattle.std.proofs.lemmas.Bool.{cases_lt}
-use Rattle.std.proofs.lemmas.List.{get_or-drop, get_or_append_left, get_or_past, get_or_push, places}
+use Rattle.std.proofs.lemmas.List.{get_or-drop, get_or_past, places}
 use Rattle.scale.specs.Meaning.{Meaning, Laws, Code, reading}
 use Rattle.scale.proofs.Codes.{reading_of, zero_code}
 use Rattle.scale.proofs.Levels.{product_zero}
@@ -25,21 +25,6 @@ each_more P n cur v inside here before =
     below_more (λ j. P j (get_or (set cur n v) j 0)) n
     (λ j h. subst (P j) (sym (get_or-set_other cur n j v 0 (λ e. omega (arith, e, h)))) (before j h))
     (subst (P n) (sym (get_or-set_same cur n v 0 inside)) here)
-
--- a list that holds f, and one number more at its end
-pub holds_push :
-    (n : ℕ) (f : ℕ → ℕ) (cur new : List ℕ) (v : ℕ)
-    → new ≡ cur ++ (v ∷ [])
-    → length cur ≡ n
-    → v ≡ f n
-    → ((j : ℕ) → j < n → get_or cur j 0 ≡ f j)
-    → (j : ℕ)
-    → j < n + 1
-    → get_or new j 0 ≡ f j
-holds_push n f cur new v pushed long is before =
-    below_more (λ j. get_or new j 0 ≡ f j) n
-    (λ j h. ap (λ xs. get_or xs j 0) pushed ∙ get_or_append_left cur (v ∷ []) 0 j (omega arith) ∙ before j h)
-    (ap (λ xs. get_or xs n 0) pushed ∙ get_or_push cur v 0 n long ∙ is)
 
 -- the first n numbers are written over, and those behind are as they were
 abbrev pub Written : ℕ → (ℕ → ℕ) → List ℕ → List ℕ → Type 0
@@ -130,13 +115,6 @@ module _ (m : Meaning) (l : Laws m) where
   pub put_codes : (at n : ℕ) (xs row : List ℕ) → Codes m xs → Codes m row → Codes m (put_mid at n xs row)
   put_codes at n xs row codes new =
       append_codes _ _ (take_codes at xs codes) (append_codes row _ new (drop_codes n _ (drop_codes at xs codes)))
-
-  pub push_codes : (xs : List ℕ) (v : ℕ) → Codes m xs → Code m v → Codes m (xs ++ v ∷ [])
-  push_codes xs v codes vc = append_codes xs (v ∷ []) codes (λ i. one i)
-    where
-      one : (i : ℕ) → Code m (get_or (v ∷ []) i 0)
-      one zero = vc
-      one (suc i) = none_code i
 
   -- behind the end of a list reads 0
   pub all_codes : (xs : List ℕ) → ((i : ℕ) → i < length xs → Code m (get_or xs i 0)) → Codes m xs

@@ -1,14 +1,13 @@
 -- Where the rows of a table lie: the point at 0, generator i at n + i * n.
-use Rattle.std.proofs.Common.{◌≡◌, ℕ, zero, suc, ◌+◌, ◌-◌, ◌*◌, ◌<◌, ◌≤◌, ◌⊎◌, List, ◌++◌, length, get_or, take, drop, refl, sym, ap, ◌∙◌, ap₂, inl, inr, le_refl, suc-mul, mul-le-mul, mul-one, mul-add, add-one, arith}
+use Rattle.std.proofs.Common.{◌≡◌, ℕ, zero, suc, ◌+◌, ◌*◌, ◌<◌, ◌≤◌, ◌⊎◌, List, length, get_or, take, drop, refl, ap, ◌∙◌, ap₂, inl, inr, le_refl, suc-mul, mul-le-mul, mul-one, mul-add, arith}
 use Rattle.std.proofs.lemmas.Bool.{cases_lt}
-use Rattle.std.proofs.lemmas.List.{drop-drop, drop_at, get_or-drop, get_or-take, length-append, length-drop, take_at, places as sizes}
+use Rattle.std.proofs.lemmas.List.{get_or-drop, get_or-take, places as sizes}
 use Rattle.scale.specs.Meaning.{Meaning, summed}
 use Rattle.ties.specs.declared.tie.Term.{Term}
 use Rattle.ties.specs.Equations.{term_at, total}
 use Rattle.ties.specs.Faults.{Exists, Passes}
-use Rattle.ties.specs.declared.layout.Layout.{Layout}
-use Rattle.ties.specs.Layouts.{Shape, place, places, shape}
-use Rattle.ties.proofs.Places.{layout_sized, place_below, places_some}
+use Rattle.ties.specs.Layouts.{Shape, place, places}
+use Rattle.ties.proofs.Places.{place_below}
 use Rattle.book.specs.Rows.{row_at, row_of}
 
 before : (n i p : ℕ) → i < p → i * n + n ≤ p * n
@@ -65,58 +64,3 @@ total_cut m s ts xs from at k exist there long =
     let below = place_below s t.head t.counter (exist i h) in
     ap (m.product t.factor) (cut_at xs from at k p there (omega arith))
     )
-
--- how far a walk over the generators' rows has come: k are passed, and the rows of the others are left
-pub record Walked (n : ℕ) (xs : List ℕ) (k size : ℕ) (left : List ℕ) : Type 0 where
-  pub most : k ≤ n
-  pub each : size ≡ n
-  pub rest : left ≡ drop (n + k * n) xs
-
-module _ (d : Layout) (n : ℕ) (is : n ≡ places (shape d)) (xs : List ℕ)
-    (rows : length xs ≡ places (shape d) + places (shape d) * places (shape d))
-    (k size : ℕ) (left : List ℕ) (walked : Walked n xs k size left)
-  where
-    left_long : length left ≡ n + n * n - (n + k * n)
-    left_long =
-        ap length walked.rest
-        ∙ length-drop (n + k * n) xs
-        ∙ ap (λ a. a - (n + k * n)) (rows ∙ ap (λ i. i + i * i) (sym is))
-
-    -- the next row is that of the next generator
-    pub walk_next :
-        (size' : ℕ) (row rest : List ℕ)
-        → size' ≡ size
-        → left ≡ row ++ rest
-        → length row ≡ size
-        → (row ≡ take n (drop (n + k * n) xs)) × Walked n xs (k + 1) size' rest
-    walk_next size' row rest same cut long = (
-      sym (take_at row rest n (long ∙ walked.each)) ∙ ap (take n) here,
-      record {
-        most = elim (cases_lt k n) [
-          | inl h ↦ omega arith
-          | inr h ↦
-              let last : k ≡ n = omega (arith, walked.most) in
-              absurd (omega (arith, ap (λ a. a * n) last, left_long, room, walked.each, is, places_some (shape d) (layout_sized d)))
-        ];
-        each = same ∙ walked.each;
-        rest =
-            sym (drop_at row rest n (long ∙ walked.each))
-            ∙ ap (drop n) here
-            ∙ drop-drop n (n + k * n) xs
-            ∙ ap (λ a. drop a xs) (omega (arith, suc-mul k n, ap (λ j. j * n) (add-one k)));
-      },
-    )
-      where
-        here : row ++ rest ≡ drop (n + k * n) xs
-        here = sym cut ∙ walked.rest
-
-        room : size ≤ length left
-        room = omega (arith, ap length cut, length-append row rest)
-
-    -- where no row is left, all are passed
-    pub walk_end : length left < size → k ≡ places (shape d)
-    walk_end short =
-        elim (cases_lt k n) [
-          | inl h ↦ absurd (omega (arith, before n k n h, left_long, walked.each))
-          | inr h ↦ omega (arith, walked.most, is)
-        ]

@@ -3,13 +3,15 @@
 ghost use Rattle.std.specs.Prelude.{◌≡◌, ℕ, ◌+◌, ◌*◌, ◌<◌, ◌≤◌, length, slice_index};
 ghost use Rattle.book.specs.Measures.{Totals};
 ghost use Rattle.book.specs.Rows.{Codes, row_of};
+ghost use Rattle.book.specs.Sheets.{generator_of};
 ghost use Rattle.scale.specs.Meaning.{Code};
-ghost use Rattle.ties.specs.Equations.{equation, total};
-ghost use Rattle.ties.specs.Layouts.{places, shape};
+ghost use Rattle.ties.specs.Equations.{code_at, equation, total};
+ghost use Rattle.ties.specs.Layouts.{Has, places, shape};
 
 use arrayvec::ArrayVec;
 use scale::Scale;
 use ties::sound::SoundTie;
+use ties::tie::Term;
 
 // The sum of factor times code, over a tie's terms, at a row.
 pub fn total_at<S: Scale>(tie: &SoundTie<S>, row: &[u32]) -> u32
@@ -25,18 +27,34 @@ pub fn total_at<S: Scale>(tie: &SoundTie<S>, row: &[u32]) -> u32
     total
 }
 
-// The same at each generator.
+// The same at each generator: term by term, so that no generator's sum waits for another term of its own.
 pub fn totals_at<S: Scale>(tie: &SoundTie<S>, rows: &[u32]) -> ArrayVec<u32, 32>
     requires codes { Codes (S.Scale.meaning tie.now.scale.now) rows.now }
     requires size { let n = places (shape tie.now.layout.now) in length rows.now ≡ n + n * n }
     ensures { Totals (S.Scale.meaning tie.now.scale.now) (shape tie.now.layout.now) (equation tie.now.tie) rows.now result.items }
 {
-    let n = tie.layout.places();
-    let mut totals = ArrayVec::new();
-    for row in rows[n..].chunks_exact(n) {
-        totals.push(total_at(tie, row));
+    let mut totals = [0; 32];
+    for term in tie.tie.terms {
+        add_term(tie, term, rows, &mut totals);
     }
-    totals
+    ArrayVec::try_from(&totals[..tie.layout.places()]).unwrap()
+}
+
+// Adds a term to the total at each generator.
+fn add_term<S: Scale>(tie: &SoundTie<S>, term: &Term, rows: &[u32], totals: &mut [u32; 32])
+    requires exists { Has (shape tie.now.layout.now) term.now.head term.now.counter }
+    requires size { let n = places (shape tie.now.layout.now) in length rows.now ≡ n + n * n }
+    requires codes { let m = S.Scale.meaning tie.now.scale.now in Codes m totals.old × Codes m rows.now × Code m term.now.factor }
+    ensures codes { Codes (S.Scale.meaning tie.now.scale.now) totals.new }
+    ensures added { let m = S.Scale.meaning tie.now.scale.now in let s = shape tie.now.layout.now in (i : ℕ) → i < places s → slice_index totals.new i ≡ m.sum (slice_index totals.old i) (m.product term.now.factor (code_at (generator_of s rows.now i) term.now)) }
+{
+    let n = tie.layout.places();
+    let at = n + tie.layout.place(term.head, term.counter);
+    for i in 0..n {
+        totals[i] = tie
+            .scale
+            .add_product(totals[i], term.factor, rows[at + i * n]);
+    }
 }
 
 // Adds `by` times a row to another.
