@@ -2,15 +2,19 @@
 use Rattle.std.specs.Prelude.{◌≡◌, ℕ, ◌<◌, ◌≤◌, List, [], ◌∷◌, length, take, replicate, Some, None, Ok, Err, Option, Result, slice_index}
 use Rattle.scale.specs.Meaning.{Meaning}
 use Rattle.scales.specs.Kinds.{Numbers, named}
-use Rattle.ties.specs.Layouts.{Assignment, Has, Shape, Sized, Within, counters_of, place}
+use Rattle.scales.specs.Made.{any_scale}
+use Rattle.scales.specs.declared.any.AnyScale.{AnyScale}
+use Rattle.ties.specs.Layouts.{Assignment, Has, Shape, Sized, Within, counters_of, place, shape}
 use Rattle.ties.specs.Equations.{Count, Equation, Solves, nth_equation}
 use Rattle.ties.specs.Faults.{BadLayout}
 use Rattle.tie_file.specs.Table.{WellFormed}
 use Rattle.tie_file.specs.Bodies.{file_mark, file_shape}
 use Rattle.tie_file.specs.Reading.{Bad}
 use Rattle.book.specs.declared.fault.Stop.{Stop}
+use Rattle.book.specs.Held.{Held}
 use Rattle.book.specs.Posting.{Accepted, PostStopped}
 use Rattle.book.specs.Querying.{SettledDigits}
+use Rattle.book.specs.Standing.{ledger}
 use Rattle.report.specs.declared.answer.Report.{Report}
 use Rattle.report.specs.declared.fault.ReportFault.{ReportFault}
 use Rattle.report.specs.declared.fault.ReportFault.TheVariants.{File, Scale, Layout, Memory}
@@ -21,6 +25,13 @@ pub record Openable (f : List ℕ) : Type 0 where
   pub numbers : Numbers (file_mark f)
   pub sized : Sized (file_shape f)
   pub within : Within (named (file_mark f)) (file_shape f)
+
+-- a book for the ties of a file: it is over the file's mark and layout, and no tie stands
+pub record OpenedFor (f : List ℕ) (b : Held AnyScale) : Type 0 where
+  pub openable : Openable f
+  pub meaning : any_scale b.scale ≡ named (file_mark f)
+  pub shape : shape b.layout ≡ file_shape f
+  pub nothing : ledger b.table ≡ []
 
 -- where posting stopped: nowhere, and then all ties stand, or at the first tie that does not, which is refused by those
 -- before it with its fault, the list of multipliers having 64 numbers

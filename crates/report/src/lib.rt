@@ -9,15 +9,15 @@ ghost use Rattle.tie_file.specs.Bodies.{equations, file_mark, file_shape};
 
 use crate::answer::Report;
 use crate::fault::ReportFault;
+use crate::opening::open;
 use crate::summing::report_on;
-use book::Book;
-use scales::AnyScale;
 use std::alloc::Global;
 use tie_file::verify;
 
 pub mod answer;
 pub mod fault;
 pub mod lines;
+pub mod opening;
 mod settling;
 mod summing;
 
@@ -27,8 +27,6 @@ pub fn report(heap: Global, file: &[u8]) -> Result<Report, ReportFault>
     ensures { let f = file.now in MatchResult result (λ t. Openable f × Reported (named (file_mark f)) (file_shape f) (equations f) t) (ReportStopped f) }
 {
     let whole = verify(file)?;
-    let stated = whole.layout();
-    let scale = AnyScale::from_mark(stated.mark)?;
-    let mut book = Book::new(heap, scale, stated.heads, stated.widths)?;
+    let mut book = open(heap, &whole)?;
     Ok(report_on(&mut book, &whole))
 }
