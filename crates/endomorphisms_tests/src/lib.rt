@@ -1,4 +1,4 @@
-// Tables of equations over a small group, one soluble and one not.
+// Matrices over a small group, and tables of equations, one soluble and one not.
 
 #![tactic(auto)]
 

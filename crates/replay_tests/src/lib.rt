@@ -1,4 +1,4 @@
-// A run on a real book, with every sort of call.
+// Runs on a real book, with every sort of call.
 
 #![tactic(auto)]
 

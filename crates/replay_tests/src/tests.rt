@@ -1,9 +1,11 @@
 use book::fault::{LoadFault, PostFault};
+use book::reading::Reading;
 use replay::answer::Answer;
 use replay::call::{Call, Turn, View};
 use replay::replay;
 use scales::Binary;
 use std::test::Fail;
+use ties::tie::{Term, Tie};
 
 // Binary, length 3, two heads with one counter of width 3: 2x + 4y = 6, and 4x = 0.
 const TWO_TIES: [u8; 50] = [
@@ -12,6 +14,34 @@ const TWO_TIES: [u8; 50] = [
     0, 6, 0, 0, 0, 0, 0, 2, 0, 0, 0, 1, 0, 4, 0, 0, 0, // 2x + 4y = 6
     0, 0, 0, 0, 0, 0, 0, 4, 0, 0, 0, // 4x = 0
 ];
+
+// 2x + 4y = 6, and the tie that asks for x.
+const FIRST: Tie = Tie {
+    target: 0,
+    right: 6,
+    terms: &[
+        Term {
+            head: 0,
+            counter: 0,
+            factor: 2,
+        },
+        Term {
+            head: 1,
+            counter: 0,
+            factor: 4,
+        },
+    ],
+};
+
+const ASK_X: Tie = Tie {
+    target: 0,
+    right: 0,
+    terms: &[Term {
+        head: 0,
+        counter: 0,
+        factor: 1,
+    }],
+};
 
 #[test]
 fn loads_closes_and_withdraws(rt: HostRuntime) -> Result<(), Fail> {
@@ -24,6 +54,8 @@ fn loads_closes_and_withdraws(rt: HostRuntime) -> Result<(), Fail> {
         Call::Withdraw,
         Call::Withdraw,
         Call::View(View::Sheet(&[0; 6])),
+        Call::Post(FIRST, &[0; 64]),
+        Call::View(View::Query(ASK_X)),
     ];
     let turns = [
         Turn {
@@ -48,7 +80,14 @@ fn loads_closes_and_withdraws(rt: HostRuntime) -> Result<(), Fail> {
     assert!(rt; matches!(answers.get(4), Some(Answer::Withdraw(Ok(_)))));
     assert!(rt; matches!(answers.get(5), Some(Answer::Withdraw(Err(_)))));
     assert!(rt; matches!(answers.get(6), Some(Answer::Sheet(Ok(6), _))));
-    assert_eq!(rt; answers.len(), 7);
+    assert!(rt; matches!(answers.get(7), Some(Answer::Post(Ok(2), _))));
+    assert!(rt;
+        matches!(
+            answers.get(8),
+            Some(Answer::Query(Ok(Reading { settled: 1, .. })))
+        )
+    );
+    assert_eq!(rt; answers.len(), 9);
     Ok(())
 }
 

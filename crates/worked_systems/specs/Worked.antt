@@ -96,8 +96,8 @@ pub record SmallSystems : Type 0 where
   pub first_leaves : Count binary pair (two_x_four_y_is_six ∷ []) 4
   -- behind it 4x = 4 fixes none
   pub second_fixes : Accepted binary pair (two_x_four_y_is_six ∷ []) four_x_is_four 0
-  -- in its stead 4x = 0 is refused with 15, and the check says yes to the multipliers 2 and 7, and no to 1 and 1 and to
-  -- 4 and 0
+  -- in its stead 4x = 0 is refused with 15; the multipliers 2 and 7 show it, and the check says yes to them; 1 and 1 do
+  -- not, nor do 4 and 0
   pub other_refused : Contradicts binary pair (two_x_four_y_is_six ∷ []) four_x_is_none
   pub two_and_seven : Shown binary pair (two_x_four_y_is_six ∷ four_x_is_none ∷ []) (2 ∷ 7 ∷ [])
   pub one_and_one : Refutes binary pair (two_x_four_y_is_six ∷ four_x_is_none ∷ []) (1 ∷ 1 ∷ []) → ⊥
