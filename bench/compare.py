@@ -14,6 +14,7 @@ import time
 TOP = pathlib.Path(__file__).resolve().parent.parent
 sys.path.insert(0, str(TOP / "agreement"))
 
+import agree  # noqa: E402
 import files  # noqa: E402
 import solver  # noqa: E402
 
@@ -115,6 +116,7 @@ def main():
     ours = Peer(out / "libours.so", "bench")
     plain = Peer(out / "libplain.so", "plain")
     flint = Peer(out / "libflint_peer.so", "flint")
+    boundary = agree.Library(str(out / "libcounter_ties.so"))
     print("times of one turn in microseconds, and how often ours goes into the other's")
     for name, kind, base, length, row, seed in [
         ("dense, modulo 2^31", 1, 2, 31, dense, 1),
@@ -132,7 +134,9 @@ def main():
             seconds, answer = peer.timed("whole", data, turns)
             assert answer == free, (label, answer, free)
             rows.append((f"whole system, {label}", seconds, whole))
-        point = solution_of(data)
+        status, sheet, _ = boundary.sheet(data)
+        assert status == 0
+        point = sheet[:PLACES]
         few = max(1, turns // 40)
         for label, (seconds, solution) in [
             ("PARI, matsolvemod", by_pari(factors, rights, size, few)),
@@ -155,17 +159,6 @@ def main():
         for label, seconds, base_time in rows:
             ratio = "" if base_time is None else f"{seconds / base_time:10.2f}"
             print(f"  {label:40} {seconds * 1e6:12.2f} {ratio}")
-
-
-def solution_of(data):
-    """The point of the library's sheet, by the boundary that other languages use."""
-    numbers = (ctypes.c_uint32 * 1056)()
-    free = ctypes.c_uint16()
-    calls = ctypes.CDLL(str(TOP / "bench" / "out" / "libcounter_ties.so"))
-    call = calls.counter_ties_sheet
-    call.argtypes = [ctypes.c_char_p, ctypes.c_size_t, ctypes.c_void_p, ctypes.c_size_t, ctypes.c_void_p]
-    assert call(data, len(data), numbers, 1056, ctypes.byref(free)) == 0
-    return list(numbers)[:PLACES]
 
 
 def meets(solution, factors, rights, size):
