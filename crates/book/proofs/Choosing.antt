@@ -1,12 +1,13 @@
 -- What divides a number has no higher level.
 use Rattle.std.proofs.Common.{◌≡◌, ℕ, ◌+◌, ◌<◌, ◌≤◌, List, [], ◌∷◌, ◌++◌, length, get_or, refl, sym, subst, subst₂, ap, ◌∙◌, arith, below_more}
 use Rattle.std.proofs.lemmas.List.{get_or_append_left, get_or_push, length_push}
-use Rattle.scale.specs.Meaning.{Meaning, Laws, Code, Quotient}
+use Rattle.scale.specs.Meaning.{Meaning, Laws, Code, Quotient, power}
 use Rattle.ties.specs.Layouts.{Shape, places}
 use Rattle.ties.specs.Equations.{Equation}
 use Rattle.book.specs.declared.pivot.Pivot.{Pivot}
 use Rattle.book.specs.Sheets.{generator_of}
-use Rattle.book.specs.Dividing.{Scanned}
+use Rattle.book.specs.declared.dividing.Divisor.{Divisor}
+use Rattle.book.specs.Dividing.{DividesBy, Scanned}
 use Rattle.book.specs.Standing.{Pivots, raised}
 
 pub quotient_level :
@@ -15,6 +16,23 @@ quotient_level m l a b c bc known =
     let e = sym (ap m.level known.1) ∙ l.level_product b c bc known.0 in
     let most = l.level_most b bc in
     omega arith
+
+-- with a code's cofactor a quotient by the power is one by the code
+pub by_cofactor :
+    (m : Meaning) (l : Laws m) (a b c : ℕ) (d : Divisor)
+    → Code m b
+    → DividesBy m b d
+    → Quotient m a (power m d.level) c
+    → Quotient m a b (m.product c d.cofactor)
+by_cofactor m l a b c d code by known =
+    let f = d.cofactor in
+    let f_code = by.cofactor.0 in (
+      l.product_code c f known.0 f_code,
+      ap (m.product b) (l.product_comm c f known.0 f_code)
+          ∙ sym (l.product_assoc b f c code f_code known.0)
+          ∙ ap (λ x. m.product x c) by.cofactor.1
+          ∙ known.1,
+    )
 
 -- the pivot's product has the least level of all
 pub least :

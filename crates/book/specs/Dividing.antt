@@ -1,6 +1,12 @@
 -- A pivot among products.
 use Rattle.std.specs.Prelude.{◌≡◌, ℕ, ◌+◌, ◌<◌, ◌≤◌, List, length, slice_index}
-use Rattle.scale.specs.Meaning.{Meaning, Quotient}
+use Rattle.scale.specs.Meaning.{Meaning, Quotient, power}
+use Rattle.book.specs.declared.dividing.Divisor.{Divisor}
+
+-- the level of a code, and a cofactor that makes it the step to that power
+pub record DividesBy (m : Meaning) (b : ℕ) (d : Divisor) : Type 0 where
+  pub level : d.level ≡ m.level b
+  pub cofactor : Quotient m (power m d.level) b d.cofactor
 
 -- none of the first n has a lower level than the p-th
 abbrev pub Lowest : Meaning → List ℕ → ℕ → ℕ → Type 0

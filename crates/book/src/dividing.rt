@@ -1,7 +1,7 @@
 // The choice of a pivot among products: one that divides all of them, with the quotients.
 
-ghost use Rattle.std.specs.Prelude.{◌≡◌, ◌≤◌, length, slice_index};
-ghost use Rattle.book.specs.Dividing.{Divides, Scanned};
+ghost use Rattle.std.specs.Prelude.{◌≡◌, ℕ, ◌≤◌, length, slice_index};
+ghost use Rattle.book.specs.Dividing.{Divides, DividesBy, Scanned};
 ghost use Rattle.book.specs.Rows.{Codes};
 ghost use Rattle.scale.specs.Meaning.{Code, Divided};
 
@@ -20,25 +20,60 @@ pub fn quotient_of<S: Scale>(scale: &S, a: u32, b: u32) -> Option<u32>
     }
 }
 
-// The last product that the one chosen before it does not divide, and the quotients by it of those from it on.
-pub fn scan<S: Scale>(scale: &S, products: &ArrayVec<u32, 32>) -> (usize, ArrayVec<u32, 32>)
+// What divides by a code again and again: its level, and the cofactor that makes it the step to that power.
+#[derive(Clone, Copy)]
+pub struct Divisor {
+    pub level: u8,
+    pub cofactor: u32,
+}
+
+impl Divisor {
+    pub fn of<S: Scale>(scale: &S, code: u32) -> Divisor
+        requires { Code (S.Scale.meaning scale.now) code }
+        ensures { DividesBy (S.Scale.meaning scale.now) code result }
+    {
+        let level = scale.level(code);
+        Divisor {
+            level,
+            cofactor: quotient_of(scale, scale.step_power(level), code).unwrap(),
+        }
+    }
+
+    pub fn quotient<S: Scale>(self, scale: &S, a: u32) -> Option<u32>
+        requires { Code (S.Scale.meaning scale.now) a }
+        ensures { let m = S.Scale.meaning scale.now in (b : ℕ) → Code m b → DividesBy m b self → Divided m a b result }
+    {
+        let lowered = scale.lowered(a, self.level)?;
+        Some(scale.product(lowered, self.cofactor))
+    }
+}
+
+// The last product that the one chosen before it does not divide, what divides by it, and the quotients of those from it
+// on.
+pub fn scan<S: Scale>(
+    scale: &S,
+    products: &ArrayVec<u32, 32>,
+) -> (usize, Divisor, ArrayVec<u32, 32>)
     requires codes { Codes (S.Scale.meaning scale.now) products.now.items }
     requires some { 1 ≤ length products.now.items }
-    ensures { let ds = products.now.items in Scanned (S.Scale.meaning scale.now) ds (length ds) result.0 result.1.items }
+    ensures divisor { let ds = products.now.items in DividesBy (S.Scale.meaning scale.now) (slice_index ds result.0) result.1 }
+    ensures scanned { let ds = products.now.items in Scanned (S.Scale.meaning scale.now) ds (length ds) result.0 result.2.items }
 {
     let mut pivot = 0;
+    let mut divisor = Divisor::of(scale, products[0]);
     let mut quotients = ArrayVec::new();
     for (i, product) in products.iter().enumerate() {
-        match quotient_of(scale, *product, products[pivot]) {
+        match divisor.quotient(scale, *product) {
             Some(quotient) => quotients.push(quotient),
             None => {
                 pivot = i;
+                divisor = Divisor::of(scale, *product);
                 quotients.clear();
                 quotients.push(scale.one());
             }
         }
     }
-    (pivot, quotients)
+    (pivot, divisor, quotients)
 }
 
 // The quotients of all products by the pivot's, where those from it on are found.
@@ -46,15 +81,17 @@ pub fn complete<S: Scale>(
     scale: &S,
     products: &ArrayVec<u32, 32>,
     pivot: usize,
+    divisor: Divisor,
     found: &[u32],
 ) -> ArrayVec<u32, 32>
     requires codes { Codes (S.Scale.meaning scale.now) products.now.items }
+    requires divisor { let ds = products.now.items in DividesBy (S.Scale.meaning scale.now) (slice_index ds pivot) divisor }
     requires scanned { let ds = products.now.items in Scanned (S.Scale.meaning scale.now) ds (length ds) pivot found.now }
     ensures { let ds = products.now.items in Divides (S.Scale.meaning scale.now) ds (slice_index ds pivot) result.items }
 {
     let mut quotients = ArrayVec::new();
     for product in &products[..pivot] {
-        quotients.push(quotient_of(scale, *product, products[pivot]).unwrap());
+        quotients.push(divisor.quotient(scale, *product).unwrap());
     }
     quotients.try_extend_from_slice(found).unwrap();
     quotients

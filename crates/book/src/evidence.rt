@@ -16,7 +16,7 @@ use crate::measured::Measured;
 use crate::pivot::Pivot;
 use crate::table::Table;
 use multipliers::adding::add_terms;
-use scale::{Scale, step_power};
+use scale::Scale;
 use ties::sound::SoundTie;
 
 // The product of two rows, of which the second may be shorter.
@@ -63,7 +63,7 @@ pub fn refute<S: Scale>(
     let count = table.standing.len();
     let scale = tie.scale;
     let layout = tie.layout;
-    let lead = step_power(scale, measured.pivot.fixed(scale));
+    let lead = scale.step_power(measured.pivot.fixed(scale));
     let mut row = [0; 32];
     add_terms(tie, scale.product(lead, tie.raise()), &mut row);
     multipliers[count] = lead;

@@ -25,7 +25,7 @@ pub fn measure<S: Scale>(tie: &SoundTie<S>, rows: &[u32]) -> Measured
     let raise = tie.raise();
     let mut products = totals_at(tie, rows);
     multiply(scale, &mut products, raise);
-    let (number, found) = scan(scale, &products);
+    let (number, divisor, found) = scan(scale, &products);
     let at = n + number * n;
     let reached = scale.product(raise, total_at(tie, &rows[..n]));
     Measured {
@@ -33,7 +33,7 @@ pub fn measure<S: Scale>(tie: &SoundTie<S>, rows: &[u32]) -> Measured
             number,
             row: ArrayVec::try_from(&rows[at..at + n]).unwrap(),
             divisor: products[number],
-            quotients: complete(scale, &products, number, &found),
+            quotients: complete(scale, &products, number, divisor, &found),
         },
         rest: scale.sum(scale.product(raise, tie.tie.right), scale.negative(reached)),
     }

@@ -7,7 +7,7 @@ ghost use Rattle.scale.specs.Meaning.{Code, digits};
 
 use crate::rows::{add_multiple, multiply};
 use arrayvec::ArrayVec;
-use scale::{Scale, step_power};
+use scale::Scale;
 
 // The generator by which a tie reduces the others: its number and its row; the tie's raised product with it, which
 // divides those with all generators; and the quotients.
@@ -57,7 +57,7 @@ impl<S: Scale> Step<'_, S> {
         self.spread(rows, self.shift, &negatives(self.scale, quotients));
         let n = row.len();
         let at = n + number * n;
-        let power = step_power(self.scale, self.pivot.fixed(self.scale));
+        let power = self.scale.step_power(self.pivot.fixed(self.scale));
         multiply(self.scale, &mut rows[at..at + n], power);
     }
 

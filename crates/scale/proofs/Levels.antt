@@ -1,8 +1,8 @@
 -- What follows from the laws of levels.
-use Rattle.std.proofs.Common.{◌≡◌, ℕ, zero, suc, ◌+◌, ◌-◌, ◌*◌, ◌^◌, ◌<◌, ◌≤◌, min, ◌↔◌, sym, ap, ◌∙◌, one-mul, pow-suc, arith}
+use Rattle.std.proofs.Common.{◌≡◌, ℕ, zero, suc, ◌+◌, ◌-◌, ◌*◌, ◌^◌, ◌<◌, ◌≤◌, min, ◌↔◌, Some, sym, ap, ◌∙◌, one-mul, pow-suc, arith}
 use native.Mathlib.Nat.{pow-le-pow_right, pow-zero}
-use Rattle.scale.specs.Meaning.{Meaning, Laws, Code, size, base, digits, power}
-use Rattle.scale.proofs.Codes.{power_code}
+use Rattle.scale.specs.Meaning.{Meaning, Laws, Code, Divided, size, base, digits, power}
+use Rattle.scale.proofs.Codes.{power_code, zero_code}
 use Rattle.scale.proofs.Coded.{codes}
 use Rattle.scale.proofs.Ring.{mul_zero}
 
@@ -16,6 +16,10 @@ module _ (m : Meaning) (l : Laws m) where
 
   pub product_zero : (a : ℕ) → Code m a → m.product a 0 ≡ 0
   product_zero a h = ap (λ c. c.0) (mul_zero (codes m l) (a, h))
+
+  -- 0 is a quotient of 0 by any code
+  pub zero_divided : (b : ℕ) → Code m b → Divided m 0 b (Some 0)
+  zero_divided b h = (omega (arith, l.level_zero, l.level_most b h), (zero_code m l, product_zero b h))
 
   pub one_not_zero : m.one ≡ 0 → ⊥
   one_not_zero e =

@@ -50,6 +50,21 @@ pub trait Scale {
     fn quotient(&self, a: u32, b: u32) -> Option<u32>
         ensures { let m = meaning self.now in Divided m (reading m a) (reading m b) result };
 
+    // The step to the power `k`.
+    fn step_power(&self, k: u8) -> u32
+        ensures { result ≡ power (meaning self.now) k }
+    {
+        let step = self.step();
+        (0..k).fold(self.one(), |power, _| self.product(step, power))
+    }
+
+    // The quotient of `a` by the step to the power `k`; a scale may have a shorter way to it.
+    fn lowered(&self, a: u32, k: u8) -> Option<u32>
+        ensures { let m = meaning self.now in Divided m (reading m a) (power m k) result }
+    {
+        self.quotient(a, self.step_power(k))
+    }
+
     ghost lawful: { (s : Self) → Laws (meaning s) };
 }
 
@@ -58,12 +73,4 @@ pub fn is_code<S: Scale>(scale: &S, a: u32) -> bool
     ensures { let m = S.Scale.meaning scale.now in Decides result (Code m a) }
 {
     scale.sum(a, 0) == a
-}
-
-// The step to the power `k`.
-pub fn step_power<S: Scale>(scale: &S, k: u8) -> u32
-    ensures { result ≡ power (S.Scale.meaning scale.now) k }
-{
-    let step = scale.step();
-    (0..k).fold(scale.one(), |power, _| scale.product(step, power))
 }

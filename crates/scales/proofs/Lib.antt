@@ -1,3 +1,4 @@
+pub mod Lowering
 pub mod OddBases
 pub mod Quotients
 pub mod Twos

@@ -105,6 +105,14 @@ impl Scale for AnyScale {
         }
     }
 
+    fn lowered(&self, a: u32, k: u8) -> Option<u32> {
+        match self {
+            AnyScale::Binary(s) => s.lowered(a, k),
+            AnyScale::Prime(s) => s.lowered(a, k),
+            AnyScale::Disc(s) => s.lowered(a, k),
+        }
+    }
+
     fn quotient(&self, a: u32, b: u32) -> Option<u32> {
         match self {
             AnyScale::Binary(s) => s.quotient(a, b),

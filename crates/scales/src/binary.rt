@@ -69,6 +69,11 @@ impl Digits for Bits {
         }
     }
 
+    fn lowered(&self, a: u32, k: u8) -> Option<u32> {
+        let rest = a >> k;
+        (rest << k == a).then_some(rest)
+    }
+
     fn digit_inverse(&self, _unit: u32) -> u32 {
         1
     }

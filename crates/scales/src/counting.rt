@@ -81,6 +81,15 @@ impl<D: Digits> Scale for Counting<D> {
         }
     }
 
+    // From the length on the power is 0, which divides only 0.
+    fn lowered(&self, a: u32, k: u8) -> Option<u32> {
+        match self.reading(a) {
+            0 => Some(0),
+            a if k < self.digits.mark().length => self.digits.lowered(a, k),
+            _ => None,
+        }
+    }
+
     fn quotient(&self, a: u32, b: u32) -> Option<u32> {
         let a = self.reading(a);
         let b = self.reading(b);

@@ -4,7 +4,7 @@ ghost use Rattle.std.specs.Prelude.{◌≡◌, ◌*◌, ◌%◌, ◌^◌, ◌<�
 ghost use Rattle.scale.specs.declared.Mark.{Mark as Marked};
 ghost use Rattle.scale.specs.Meaning.{Laws, base, size};
 ghost use Rattle.scales.specs.Counting.{counting};
-ghost use Rattle.scales.specs.Parting.{Parted};
+ghost use Rattle.scales.specs.Parting.{Lowered, Parted};
 
 use scale::Mark;
 
@@ -32,6 +32,11 @@ pub trait Digits {
     fn split(&self, a: u32) -> Parts
         requires { (0 < a) × (a < size (counting (counts self.now))) }
         ensures { let q = base (counting (counts self.now)) in Parted q q a result };
+
+    // `a` without its last `k` digits, where they are 0.
+    fn lowered(&self, a: u32, k: u8) -> Option<u32>
+        requires { k < (counts self.now).length }
+        ensures { let q = base (counting (counts self.now)) in Lowered q a k result };
 
     fn digit_inverse(&self, unit: u32) -> u32
         requires { 0 < unit % base (counting (counts self.now)) }

@@ -132,6 +132,11 @@ impl Digits for OddBase {
         self.shed(parts, 1, first)
     }
 
+    fn lowered(&self, a: u32, k: u8) -> Option<u32> {
+        let power = u32::from(self.base).pow(u32::from(k));
+        (a % power == 0).then_some(a / power)
+    }
+
     // In these bases the power base - 2 of a digit is its inverse.
     fn digit_inverse(&self, unit: u32) -> u32 {
         let base = u32::from(self.base);

@@ -12,7 +12,7 @@ use crate::layout::Layout;
 use crate::owned::OwnedTie;
 use crate::tie::Tie;
 use arrayvec::ArrayVec;
-use scale::{Scale, step_power};
+use scale::Scale;
 
 // A tie that passed the checks, with the scale and the layout that it passed them for.
 pub struct SoundTie<'s, 't, S: Scale> {
@@ -28,7 +28,8 @@ impl<S: Scale> SoundTie<'_, '_, S> {
         ensures { let m = S.Scale.meaning self.now.scale.now in result ≡ power m (digits m - depth (shape self.now.layout.now) (equation self.now.tie)) }
     {
         let depth = self.layout.width(self.tie.target);
-        step_power(self.scale, self.scale.mark().length.saturating_sub(depth))
+        let raised = self.scale.mark().length.saturating_sub(depth);
+        self.scale.step_power(raised)
     }
 
     // The tie with terms of its own: since they rise, there are 32 at most.

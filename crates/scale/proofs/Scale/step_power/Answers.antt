@@ -6,12 +6,12 @@ use Rattle.std.proofs.lemmas.List.{length_push}
 use Rattle.std.proofs.lemmas.List.FromFn.{length-range_with_len}
 use Rattle.scale.specs.Meaning.{power, reading}
 use Rattle.scale.proofs.Codes.{power_more}
-use Rattle.scale.proofs.step_power.Goals as goal
+use Rattle.scale.proofs.Scale.step_power.Goals as goal
 
 pub returns : goal.returns
 returns g c =
-    let m = g.S.Scale.meaning c.args.scale.now in
-    let l = g.met.S.Scale.lawful c.args.scale.now in
+    let m = g.Self.Scale.meaning c.args.self.now in
+    let l = g.met.Self.Scale.lawful c.args.self.now in
     let k : ℕ = c.args.k in
     fold_over nat_range_steps (λ (x : ℕ). x) _ (λ (ys : List ℕ) (a : ℕ). a ≡ power m (length ys)) _
     (λ ys a x b f' is called.

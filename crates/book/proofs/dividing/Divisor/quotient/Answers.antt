@@ -1,0 +1,31 @@
+use Rattle.std.proofs.Common.{◌≡◌, ℕ, ◌<◌, ◌≤◌, min, sym, ap, ◌∙◌, subst, arith}
+use Rattle.scale.specs.Meaning.{Divided, Quotient, digits, power}
+use Rattle.scale.proofs.Codes.{reading_of}
+use Rattle.scale.proofs.Levels.{power_level}
+use Rattle.book.proofs.Choosing.{by_cofactor}
+use Rattle.book.proofs.Filling.{product_is}
+use Rattle.book.proofs.dividing.Divisor.quotient.Goals as goal
+
+pub returns-in_err-lowered : goal.returns-in_err-lowered
+returns-in_err-lowered g c =
+    let m = g.S.Scale.meaning c.args.scale.now in
+    let l = g.met.S.Scale.lawful c.args.scale.now in
+    let k = c.args.self.level in
+    λ b code by.
+    let power = power_level m l k in
+    let low = rw (reading_of m l c.args.a c.requires) at c.in_err-lowered.ensures in
+    subst (λ r. Divided m c.args.a b r) (sym c.from_residual.ensures)
+    (omega (arith, low, power, by.level))
+
+pub returns : goal.returns
+returns g c =
+    let m = g.S.Scale.meaning c.args.scale.now in
+    let l = g.met.S.Scale.lawful c.args.scale.now in
+    let k = c.args.self.level in
+    λ b code by.
+    let power = power_level m l k in
+    let known = rw (reading_of m l c.args.a c.requires) at c.in_ok-lowered.ensures in
+    let product = product_is m l c.in_ok-lowered.lowered c.args.self.cofactor c.product.result known.1.0 by.cofactor.0 c.product.ensures in (
+      omega (arith, known.0, power, by.level, l.level_most b code),
+      subst (Quotient m c.args.a b) (sym product.1) (by_cofactor m l c.args.a b c.in_ok-lowered.lowered c.args.self code by known.1),
+    )
