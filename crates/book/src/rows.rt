@@ -50,11 +50,11 @@ fn add_term<S: Scale>(tie: &SoundTie<S>, term: &Term, rows: &[u32], totals: &mut
 {
     let n = tie.layout.places();
     let at = n + tie.layout.place(term.head, term.counter);
+    let mut column = [0; 32];
     for i in 0..n {
-        totals[i] = tie
-            .scale
-            .add_product(totals[i], term.factor, rows[at + i * n]);
+        column[i] = rows[at + i * n];
     }
+    add_multiple(tie.scale, &mut totals[..n], &column[..n], term.factor);
 }
 
 // Adds `by` times a row to another.
@@ -67,9 +67,7 @@ pub fn add_multiple<S: Scale>(scale: &S, to: &mut [u32], from: &[u32], by: u32)
     if by == 0 {
         return;
     }
-    for (j, code) in to.iter_mut().enumerate() {
-        *code = scale.add_product(*code, by, from[j]);
-    }
+    scale.add_multiple(to, by, from);
 }
 
 // Multiplies a row by `by`.

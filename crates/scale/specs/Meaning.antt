@@ -1,6 +1,6 @@
 -- A scale is the arithmetic of one sort of wrapping counter.
 -- Its meaning is one value, and its laws are stated of that value alone.
-use Rattle.std.specs.Prelude.{◌≡◌, ℕ, zero, suc, ◌+◌, ◌-◌, ◌%◌, ◌^◌, ◌<◌, ◌≤◌, min, cond, Option, MatchOption, nat_le}
+use Rattle.std.specs.Prelude.{◌≡◌, ℕ, zero, suc, ◌+◌, ◌-◌, ◌%◌, ◌^◌, ◌<◌, ◌≤◌, min, cond, List, slice_index, Option, MatchOption, nat_le}
 use Rattle.scale.specs.declared.Mark.{Mark}
 
 -- what a scale means: its mark, one, the step, and its functions at codes
@@ -53,6 +53,14 @@ Quotient m a b c = Code m c × (m.product b c ≡ a)
 -- what the quotient of `a` by `b` answers: it is there exactly when the level of `a` is at least that of `b`
 abbrev pub Divided : Meaning → ℕ → ℕ → Option ℕ → Type 0
 Divided m a b r = MatchOption r (m.level a < m.level b) (λ c. (m.level b ≤ m.level a) × Quotient m a b c)
+
+-- `by` times the first `n` numbers of a list is added to those of another
+pub record MultipleAdded (m : Meaning) (by : ℕ) (from old new : List ℕ) (n : ℕ) : Type 0 where
+  pub added :
+      (j : ℕ)
+      → j < n
+      → slice_index new j ≡ m.sum (reading m (slice_index old j)) (m.product (reading m by) (reading m (slice_index from j)))
+  pub kept : (j : ℕ) → n ≤ j → slice_index new j ≡ slice_index old j
 
 -- the laws of a scale
 pub record Laws (m : Meaning) : Type 0 where

@@ -2,8 +2,8 @@
 
 #![tactic(auto)]
 
-ghost use Rattle.std.specs.Prelude.{◌≡◌, Decides};
-ghost use Rattle.scale.specs.Meaning.{Code, Divided, Laws, Meaning, power, reading};
+ghost use Rattle.std.specs.Prelude.{◌≡◌, Decides, length, min};
+ghost use Rattle.scale.specs.Meaning.{Code, Divided, Laws, Meaning, MultipleAdded, power, reading};
 
 // A scale's kind, digit base and length in digits. The kind is a plain number: a crate may have scales of its own kinds.
 #[derive(Clone, Copy, PartialEq, Eq, Debug)]
@@ -41,6 +41,15 @@ pub trait Scale {
         ensures { let m = meaning self.now in result ≡ m.sum (reading m a) (m.product (reading m b) (reading m c)) }
     {
         self.sum(a, self.product(b, c))
+    }
+
+    // Adds `by` times a list to another, as far as both go; a scale may have a shorter way to it.
+    fn add_multiple(&self, to: &mut [u32], by: u32, from: &[u32])
+        ensures { MultipleAdded (meaning self.now) by from.now to.old to.new (min (length to.old) (length from.now)) }
+    {
+        for j in 0..to.len().min(from.len()) {
+            to[j] = self.add_product(to[j], by, from[j]);
+        }
     }
 
     fn level(&self, a: u32) -> u8

@@ -1,3 +1,4 @@
+pub mod Adding
 pub mod Lowering
 pub mod OddBases
 pub mod Quotients

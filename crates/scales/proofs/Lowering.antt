@@ -1,5 +1,5 @@
 -- Division by a power of the base.
-use Rattle.std.proofs.Common.{◌≡◌, ℕ, zero, suc, ◌*◌, ◌%◌, ◌^◌, ◌<◌, ◌≤◌, Option, None, Some, sym, ap, ap₂, ◌∙◌, subst, subst₂, mod-lt, mod-eq_of_lt, mul_comm, pow-suc, lt_of_not-le, lt_of_le_of_lt, le-mul_of_pos_right, arith}
+use Rattle.std.proofs.Common.{◌≡◌, ℕ, zero, suc, ◌*◌, ◌%◌, ◌^◌, ◌<◌, ◌≤◌, Option, None, Some, sym, ap, ◌∙◌, subst, mod-eq_of_lt, mul_comm, pow-suc, lt_of_not-le, lt_of_le_of_lt, le-mul_of_pos_right, arith}
 use Rattle.std.proofs.lemmas.Nat.{mul-mod, mul-mod_first}
 use Rattle.std.proofs.Math.Nat.{pow-zero, mul-mod_right}
 use Rattle.scale.specs.declared.Mark.{Mark}
@@ -38,13 +38,12 @@ module _ (m : Mark) (l : Laws (counting m)) where
   low_divided a k (Some c) code short is =
       let level = power_level (counting m) l k in
       let pos = power_pos q k l.base_least in
-      let least : c ≤ a = subst (λ y. c ≤ y) (mul_comm c (q ^ k) ∙ sym is) (le-mul_of_pos_right c pos) in
-      (
+      let least : c ≤ a = subst (λ y. c ≤ y) (mul_comm c (q ^ k) ∙ sym is) (le-mul_of_pos_right c pos) in (
         omega (arith, level, divide_zeros q e k a (omega (arith, l.base_least)) (omega arith) (ap (λ (y : ℕ). y % q ^ k) is ∙ mul-mod_right (q ^ k) c)),
         (
           lt_of_le_of_lt least code,
           ap (λ (y : ℕ). (y * c) % n) (power_is k) ∙ mul-mod_first (q ^ k) c n ∙ ap (λ (y : ℕ). y % n) (sym is)
-          ∙ mod-eq_of_lt code,
+              ∙ mod-eq_of_lt code,
         ),
       )
 

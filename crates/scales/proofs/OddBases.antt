@@ -1,5 +1,5 @@
 -- The numbers of an odd base are fit.
-use Rattle.std.specs.Prelude.{◌≡◌, ℕ, ◌-◌, ◌%◌, ◌^◌, ◌<◌, ◌≤◌}
+use Rattle.std.specs.Prelude.{◌≡◌, ℕ, ◌+◌, ◌-◌, ◌%◌, ◌^◌, ◌<◌, ◌≤◌}
 use Rattle.std.proofs.Common.{sym, subst, mod-lt, lt_of_lt_of_le, lit≤, arith}
 use Rattle.std.proofs.Math.Nat.{one-le-pow}
 use Rattle.scales.specs.declared.prime.OddBase.{OddBase}
@@ -16,6 +16,10 @@ odd_power s digits is = subst (λ (n : ℕ). 0 < n) (sym is) (one-le-pow digits 
 
 pub odd_size : (s : OddBase) → 0 < s.size
 odd_size s = odd_power s s.length s.whole
+
+-- twice the size is no more than 32 bits hold
+pub odd_twice : (s : OddBase) → s.size + s.size ≤ 2 ^ 32
+odd_twice s = omega (arith, (odd_fit s).0.size_most, s.whole)
 
 -- the power of a digit that is its inverse is small
 pub odd_inverse : (s : OddBase) (unit : ℕ) → (unit % s.base) ^ (s.base - 2) < 2 ^ 32

@@ -1,45 +1,63 @@
--- A quotient by one multiplication: with the reciprocal, rounded down, it is right or one too small.
-use Rattle.std.proofs.Common.{◌≡◌, ℕ, ◌+◌, ◌-◌, ◌*◌, ◌/◌, ◌%◌, ◌<◌, ◌≤◌, sym, ap, ◌∙◌, subst, arith, mod-eq_of_lt}
+-- A quotient by one multiplication: with a ratio that is rounded down, it is right or one too small.
+use Rattle.std.proofs.Common.{◌≡◌, ℕ, ◌+◌, ◌-◌, ◌*◌, ◌/◌, ◌%◌, ◌<◌, ◌≤◌, sym, ap, ◌∙◌, subst, arith, one-mul}
 use Rattle.std.proofs.Math.Nat.{div-mul-le_self, le_of_mul-le-mul_right, mul-le-mul_left, mul-le-mul_right, mul-lt-mul_of_pos_right, lt-div-mul-add, lt_of_mul-lt-mul_right, mul-add-mod_self_right}
 
--- `w` is above the dividend x, r the reciprocal of d within w, and n the quotient that it gives
-module _ (w d r x n : ℕ) (some : 0 < d) (within : x < w) (reciprocal : r ≡ (w - 1) / d) (is : n ≡ x * r / w) where
-  above : 0 < w
-  above = omega (arith, within)
+-- what a quotient n of p by d leaves is the remainder, or d more
+pub record Near (p d n : ℕ) : Type 0 where
+  pub most : n * d ≤ p
+  pub small : p - n * d < d + d
+  pub same : (p - n * d) % d ≡ p % d
 
-  low : r * d ≤ w
-  low = let b = div-mul-le_self (w - 1) d in subst (λ (q : ℕ). q * d ≤ w) (sym reciprocal) (omega (arith, b))
+-- `r` is how often d goes into b times w, rounded down, and n the quotient of b times x that it gives
+pub near :
+    (w d r b x p n : ℕ)
+    → 0 < d
+    → x < w
+    → r * d ≤ b * w
+    → b * w ≤ r * d + d
+    → p ≡ b * x
+    → n ≡ x * r / w
+    → Near p d n
+near w d r b x p n some within low high product is =
+    let above : 0 < w = omega (arith, within) in
+    let floor : n * w ≤ x * r = subst (λ (q : ℕ). q * w ≤ x * r) (sym is) (div-mul-le_self (x * r) w) in
+    let ceiling : x * r < n * w + w =
+    let h = lt-div-mul-add {a = x * r} {b = w} above in subst (λ (q : ℕ). x * r < q * w + w) (sym is) h
+    in
+    let least : n * d ≤ b * x =
+    let a : n * w * d ≤ x * r * d = mul-le-mul_right d floor in
+    let c : x * (r * d) ≤ x * (b * w) = mul-le-mul_left x low in
+    le_of_mul-le-mul_right {k = w} (grind (arith, a, c)) above
+    in
+    let most : b * x < n * d + (d + d) =
+    let a : x * (b * w) ≤ x * (r * d + d) = mul-le-mul_left x high in
+    let c : (x * r + x) * d < (n * w + w + w) * d = mul-lt-mul_of_pos_right (omega (arith, ceiling, within)) some in
+    lt_of_mul-lt-mul_right w (grind (arith, a, c))
+    in
+    record {
+      most = omega (arith, least, product);
+      small = omega (arith, least, most, product);
+      same = sym (mul-add-mod_self_right n d (p - n * d)) ∙ ap (λ (y : ℕ). y % d) (omega (arith, least, product));
+    }
 
-  high : w ≤ r * d + d
-  high =
-      let b = lt-div-mul-add {a = w - 1} {b = d} some in
-      subst (λ (q : ℕ). w ≤ q * d + d) (sym reciprocal) (omega (arith, b, above))
+-- the ratio of b is exact up to what division leaves
+pub ratio_low : (w d r b : ℕ) → r ≡ b * w / d → r * d ≤ b * w
+ratio_low w d r b is = subst (λ (q : ℕ). q * d ≤ b * w) (sym is) (div-mul-le_self (b * w) d)
 
-  floor : n * w ≤ x * r
-  floor = subst (λ (q : ℕ). q * w ≤ x * r) (sym is) (div-mul-le_self (x * r) w)
+pub ratio_high : (w d r b : ℕ) → 0 < d → r ≡ b * w / d → b * w ≤ r * d + d
+ratio_high w d r b some is =
+    let h = lt-div-mul-add {a = b * w} {b = d} some in
+    subst (λ (q : ℕ). b * w ≤ q * d + d) (sym is) (omega (arith, h))
 
-  ceiling : x * r < n * w + w
-  ceiling = subst (λ (q : ℕ). x * r < q * w + w) (sym is) (lt-div-mul-add {a = x * r} {b = w} above)
+-- and that of 1 may be one below it
+pub reciprocal_low : (w d r : ℕ) → r ≡ (w - 1) / d → r * d ≤ 1 * w
+reciprocal_low w d r is =
+    let h = div-mul-le_self (w - 1) d in
+    let one = one-mul w in
+    subst (λ (q : ℕ). q * d ≤ 1 * w) (sym is) (omega (arith, h, one))
 
-  pub near_most : n * d ≤ x
-  near_most =
-      let a : n * w * d ≤ x * r * d = mul-le-mul_right d floor in
-      let b : x * (r * d) ≤ x * w = mul-le-mul_left x low in
-      le_of_mul-le-mul_right {k = w} (grind (arith, a, b)) above
-
-  near_least : x < n * d + (d + d)
-  near_least =
-      let a : x * w ≤ x * (r * d + d) = mul-le-mul_left x high in
-      let b : (x * r + x) * d < (n * w + w + w) * d = mul-lt-mul_of_pos_right (omega (arith, ceiling, within)) some in
-      lt_of_mul-lt-mul_right w (grind (arith, a, b))
-
-  -- so what is left is the remainder, or d more
-  pub rest_is : (e : ℕ) → x - n * d ≡ e → e < d → e ≡ x % d
-  rest_is e left small =
-      sym (mod-eq_of_lt small) ∙ sym (mul-add-mod_self_right n d e) ∙ ap (λ (y : ℕ). y % d) (omega (arith, near_most, left))
-
-  pub rest_more : d ≤ x - n * d → x - n * d - d ≡ x % d
-  rest_more more =
-      let small : x - n * d - d < d = omega (arith, near_most, near_least, more) in
-      sym (mod-eq_of_lt small) ∙ sym (mul-add-mod_self_right (n + 1) d (x - n * d - d))
-      ∙ ap (λ (y : ℕ). y % d) (grind (arith, near_most, more))
+pub reciprocal_high : (w d r : ℕ) → 0 < d → 0 < w → r ≡ (w - 1) / d → 1 * w ≤ r * d + d
+reciprocal_high w d r some above is =
+    let h = lt-div-mul-add {a = w - 1} {b = d} some in
+    let one = one-mul w in
+    subst (λ (q : ℕ). 1 * w ≤ q * d + d) (sym is) (omega (arith, h, one, above))

@@ -97,6 +97,14 @@ impl Scale for AnyScale {
         }
     }
 
+    fn add_multiple(&self, to: &mut [u32], by: u32, from: &[u32]) {
+        match self {
+            AnyScale::Binary(s) => s.add_multiple(to, by, from),
+            AnyScale::Prime(s) => s.add_multiple(to, by, from),
+            AnyScale::Disc(s) => s.add_multiple(to, by, from),
+        }
+    }
+
     fn level(&self, a: u32) -> u8 {
         match self {
             AnyScale::Binary(s) => s.level(a),

@@ -74,6 +74,10 @@ impl<D: Digits> Scale for Counting<D> {
             .remainder(u64::from(a) + u64::from(b) * u64::from(c))
     }
 
+    fn add_multiple(&self, to: &mut [u32], by: u32, from: &[u32]) {
+        self.digits.add_multiple(to, by, from)
+    }
+
     fn level(&self, a: u32) -> u8 {
         match self.reading(a) {
             0 => self.digits.mark().length,

@@ -1,8 +1,8 @@
 // Whole numbers by their digits in one base.
 
-ghost use Rattle.std.specs.Prelude.{◌≡◌, ◌*◌, ◌%◌, ◌^◌, ◌<◌};
+ghost use Rattle.std.specs.Prelude.{◌≡◌, ◌*◌, ◌%◌, ◌^◌, ◌<◌, length, min};
 ghost use Rattle.scale.specs.declared.Mark.{Mark as Marked};
-ghost use Rattle.scale.specs.Meaning.{Laws, base, size};
+ghost use Rattle.scale.specs.Meaning.{Laws, MultipleAdded, base, size};
 ghost use Rattle.scales.specs.Counting.{counting};
 ghost use Rattle.scales.specs.Parting.{Lowered, Parted};
 
@@ -28,6 +28,15 @@ pub trait Digits {
 
     fn remainder(&self, x: u64) -> u32
         ensures { result ≡ x % size (counting (counts self.now)) };
+
+    // Adds `by` times a list to another, as far as both go.
+    fn add_multiple(&self, to: &mut [u32], by: u32, from: &[u32])
+        ensures { MultipleAdded (counting (counts self.now)) by from.now to.old to.new (min (length to.old) (length from.now)) }
+    {
+        for j in 0..to.len().min(from.len()) {
+            to[j] = self.remainder(u64::from(to[j]) + u64::from(by) * u64::from(from[j]));
+        }
+    }
 
     fn split(&self, a: u32) -> Parts
         requires { (0 < a) × (a < size (counting (counts self.now))) }

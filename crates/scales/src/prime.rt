@@ -1,4 +1,4 @@
-ghost use Rattle.std.specs.Prelude.{◌≡◌, ◌+◌, ◌*◌, ◌/◌, ◌%◌, ◌^◌, ◌<◌, ◌≤◌};
+ghost use Rattle.std.specs.Prelude.{◌≡◌, ℕ, ◌+◌, ◌*◌, ◌/◌, ◌%◌, ◌^◌, ◌<◌, ◌≤◌};
 ghost use Rattle.scales.specs.Kinds.{Numbers, longest, number, prime_mark};
 ghost use Rattle.scales.specs.Parting.{Parted};
 
@@ -58,7 +58,44 @@ fn greatest_length(base: u8) -> u8
     }
 }
 
+// A number to multiply by, below the size, and 2^32 times it in whole sizes: with it a product's remainder takes no wide
+// product.
+#[derive(Clone, Copy)]
+pub struct Multiplier {
+    pub by: u32,
+    pub ratio: u32,
+}
+
 impl OddBase {
+    fn multiplier(&self, by: u32) -> Multiplier
+        ensures by { result.by ≡ by % self.now.size }
+        ensures ratio { result.ratio ≡ (result.by * 2 ^ 32) / self.now.size }
+    {
+        let by = self.remainder(u64::from(by));
+        Multiplier {
+            by,
+            ratio: ((u64::from(by) << 32) / u64::from(self.size)) as u32,
+        }
+    }
+
+    // The ratio gives the quotient, or one less than it.
+    fn times(&self, multiplier: Multiplier, c: u32) -> u32
+        requires { multiplier.ratio ≡ (multiplier.by * 2 ^ 32) / self.now.size }
+        ensures { result ≡ (multiplier.by * c) % self.now.size }
+    {
+        let near = (u64::from(multiplier.ratio) * u64::from(c)) >> 32;
+        let product = u64::from(multiplier.by) * u64::from(c);
+        self.within((product - near * u64::from(self.size)) as u32)
+    }
+
+    // The remainder of a number below twice the size.
+    fn within(&self, a: u32) -> u32
+        requires { a < self.now.size + self.now.size }
+        ensures { result ≡ a % self.now.size }
+    {
+        if a < self.size { a } else { a - self.size }
+    }
+
     // `power` is the base to `digits`: those zeros leave the unit, if they are there.
     fn shed(&self, parts: Parts, digits: u8, power: u64) -> Parts
         requires raised { power ≡ self.now.base ^ digits }
@@ -101,13 +138,15 @@ impl Digits for OddBase {
 
     // A multiplication by the reciprocal is the quotient, or one less than it.
     fn remainder(&self, x: u64) -> u32 {
-        let size = u64::from(self.size);
         let near = ((u128::from(x) * u128::from(self.reciprocal)) >> 64) as u64;
-        let rest = x - near * size;
-        if rest < size {
-            rest as u32
-        } else {
-            (rest - size) as u32
+        self.within((x - near * u64::from(self.size)) as u32)
+    }
+
+    fn add_multiple(&self, to: &mut [u32], by: u32, from: &[u32]) {
+        let by = self.multiplier(by);
+        let one = self.multiplier(1);
+        for j in 0..to.len().min(from.len()) {
+            to[j] = self.within(self.times(one, to[j]) + self.times(by, from[j]));
         }
     }
 

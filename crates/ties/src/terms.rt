@@ -77,6 +77,6 @@ fn reaches<S: Scale>(scale: &S, layout: &Layout, depth: u8, term: &Term) -> bool
     requires { Code (S.Scale.meaning scale.now) term.now.factor }
     ensures { Decides result (depth ≤ (S.Scale.meaning scale.now).level term.now.factor + width_of (shape layout.now) term.now.counter) }
 {
-    let digits = u16::from(scale.level(term.factor)) + u16::from(layout.width(term.counter));
-    u16::from(depth) <= digits
+    let width = layout.width(term.counter);
+    depth <= width || depth - width <= scale.level(term.factor)
 }

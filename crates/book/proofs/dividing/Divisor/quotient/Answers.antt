@@ -1,5 +1,5 @@
-use Rattle.std.proofs.Common.{◌≡◌, ℕ, ◌<◌, ◌≤◌, min, sym, ap, ◌∙◌, subst, arith}
-use Rattle.scale.specs.Meaning.{Divided, Quotient, digits, power}
+use Rattle.std.proofs.Common.{sym, subst, arith}
+use Rattle.scale.specs.Meaning.{Divided, Quotient}
 use Rattle.scale.proofs.Codes.{reading_of}
 use Rattle.scale.proofs.Levels.{power_level}
 use Rattle.book.proofs.Choosing.{by_cofactor}

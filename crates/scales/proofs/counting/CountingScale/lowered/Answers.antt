@@ -1,4 +1,4 @@
-use Rattle.std.proofs.Common.{ℕ, ◌<◌, ◌≤◌, Option, Some, sym, ◌∙◌, subst, rules}
+use Rattle.std.proofs.Common.{ℕ, ◌<◌, ◌≤◌, Some, sym, ◌∙◌, subst, rules}
 use Rattle.scale.specs.declared.Mark.{Mark}
 use Rattle.scale.specs.Meaning.{Code, Divided, power}
 use Rattle.scale.proofs.Codes.{power_code, reading_code}

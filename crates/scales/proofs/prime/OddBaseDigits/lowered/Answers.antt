@@ -1,4 +1,4 @@
-use Rattle.std.proofs.Common.{ℕ, ◌^◌, ◌<◌, ◌≤◌, sym, subst, subst₂, arith}
+use Rattle.std.proofs.Common.{ℕ, ◌^◌, ◌<◌, ◌≤◌, sym, subst₂, arith}
 use Rattle.std.proofs.Math.Nat.{pow-le-pow_right}
 use Rattle.scale.proofs.Codes.{power_pos}
 use Rattle.scales.specs.Kinds.{prime_mark}

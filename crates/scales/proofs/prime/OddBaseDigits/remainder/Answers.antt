@@ -1,34 +1,37 @@
-use Rattle.std.proofs.Common.{ℕ, ◌%◌, refl, arith, ap, ◌∙◌, mod-lt}
-use Rattle.scales.proofs.OddBases.{odd_size}
-use Rattle.scales.proofs.Quotients.{near_most, rest_is, rest_more}
+use Rattle.std.proofs.Common.{ℕ, ◌*◌, ◌/◌, ◌%◌, ◌<◌, refl, sym, arith, ap, ◌∙◌, one-mul}
+use Rattle.scales.specs.declared.prime.OddBase.{OddBase}
+use Rattle.scales.proofs.OddBases.{odd_size, odd_twice}
+use Rattle.scales.proofs.Quotients.{Near, near, reciprocal_high, reciprocal_low}
 use Rattle.scales.proofs.prime.OddBaseDigits.remainder.Goals as goal
 
-pub overflow_sub-rest : goal.overflow_sub-rest
-overflow_sub-rest c =
-    let s = c.args.self.now in
-    rw (c.from.ensures, c.from-2.ensures, c.from-size.ensures)
-    (near_most 18446744073709551616 s.size s.reciprocal c.args.x _ (odd_size s) c.ranges.x.fits s.rounded refl)
+left : (s : OddBase) (x : ℕ) → x < 18446744073709551616 → Near x s.size (x * s.reciprocal / 18446744073709551616)
+left s x fits =
+    near 18446744073709551616 s.size s.reciprocal 1 x x _ (odd_size s) fits
+    (reciprocal_low 18446744073709551616 s.size s.reciprocal s.rounded)
+    (reciprocal_high 18446744073709551616 s.size s.reciprocal (odd_size s) (omega arith) s.rounded)
+    (sym (one-mul x)) refl
 
-pub overflow_cast-result-else-rest-size : goal.overflow_cast-result-else-rest-size
-overflow_cast-result-else-rest-size c =
+pub overflow_sub-x : goal.overflow_sub-x
+overflow_sub-x c =
     let s = c.args.self.now in
-    let more = rw (c.from.ensures, c.from-2.ensures, c.from-size.ensures) at c.if-rest-size.false in
-    rw (c.from.ensures, c.from-2.ensures, c.from-size.ensures)
-    (let is = rest_more 18446744073709551616 s.size s.reciprocal c.args.x _ (odd_size s) c.ranges.x.fits s.rounded refl more in
-    omega (arith, is, mod-lt c.args.x (odd_size s), c.fits-self))
+    rw (c.from.ensures, c.from-2.ensures, c.from-3.ensures) (left s c.args.x c.ranges.x.fits).most
 
-pub returns-then-rest-size : goal.returns-then-rest-size
-returns-then-rest-size c =
+pub overflow_cast-x : goal.overflow_cast-x
+overflow_cast-x c =
     let s = c.args.self.now in
-    let less = rw (c.from.ensures, c.from-2.ensures, c.from-size.ensures) at c.if-rest-size.true in
-    rw (c.from.ensures, c.from-2.ensures, c.from-size.ensures)
-    (rest_is 18446744073709551616 s.size s.reciprocal c.args.x _ (odd_size s) c.ranges.x.fits s.rounded refl _ refl less
-    ∙ ap (λ (d : ℕ). c.args.x % d) s.whole)
+    rw (c.from.ensures, c.from-2.ensures, c.from-3.ensures) (
+    let small = (left s c.args.x c.ranges.x.fits).small in
+    omega (arith, small, odd_twice s)
+    )
 
-pub returns-else-rest-size : goal.returns-else-rest-size
-returns-else-rest-size c =
+pub within-requires : goal.within-requires
+within-requires c =
     let s = c.args.self.now in
-    let more = rw (c.from.ensures, c.from-2.ensures, c.from-size.ensures) at c.if-rest-size.false in
-    rw (c.from.ensures, c.from-2.ensures, c.from-size.ensures)
-    (rest_more 18446744073709551616 s.size s.reciprocal c.args.x _ (odd_size s) c.ranges.x.fits s.rounded refl more
-    ∙ ap (λ (d : ℕ). c.args.x % d) s.whole)
+    rw (c.from.ensures, c.from-2.ensures, c.from-3.ensures) (left s c.args.x c.ranges.x.fits).small
+
+pub returns : goal.returns
+returns c =
+    let s = c.args.self.now in
+    c.within.ensures
+    ∙ rw (c.from.ensures, c.from-2.ensures, c.from-3.ensures)
+    ((left s c.args.x c.ranges.x.fits).same ∙ ap (λ (d : ℕ). c.args.x % d) s.whole)
