@@ -2,7 +2,9 @@
 use Rattle.std.proofs.Common.{◌≡◌, ℕ, zero, suc, ◌+◌, ◌*◌, ◌<◌, ◌≤◌, ◌⊎◌, List, length, get_or, take, drop, refl, ap, ◌∙◌, ap₂, inl, inr, le_refl, suc-mul, mul-le-mul, mul-one, mul-add, arith}
 use Rattle.std.proofs.lemmas.Bool.{cases_lt}
 use Rattle.std.proofs.lemmas.List.{get_or-drop, get_or-take, places as sizes}
-use Rattle.scale.specs.Meaning.{Meaning, summed}
+use Rattle.scale.specs.Meaning.{Meaning, Laws, Code, summed}
+use Rattle.scale.proofs.Codes.{zero_code}
+use Rattle.scale.proofs.Levels.{product_zero}
 use Rattle.ties.specs.declared.tie.Term.{Term}
 use Rattle.ties.specs.Equations.{term_at, total}
 use Rattle.ties.specs.Faults.{Exists, Passes}
@@ -48,6 +50,28 @@ cut_at xs from at k j there h =
 pub cut_long :
     (xs : List ℕ) (from at k n : ℕ) → at ≡ from → k ≡ n → from + n ≤ length xs → length (take k (drop at xs)) ≡ n
 cut_long xs from at k n there same inside = grind (arith, sizes)
+
+-- zeros add up to 0
+pub summed_none :
+    (m : Meaning) (l : Laws m) (n : ℕ) (f : ℕ → ℕ) → ((i : ℕ) → i < n → f i ≡ 0) → summed m n f ≡ 0
+summed_none m l zero f none = refl
+summed_none m l (suc n) f none =
+    ap₂ m.sum (summed_none m l n f (λ i h. none i (omega arith))) (none n (omega arith)) ∙ l.sum_zero 0 (zero_code m l)
+
+-- so the total at a row of zeros is 0
+pub total_none :
+    (m : Meaning) (l : Laws m) (s : Shape) (ts : List Term) (row : List ℕ)
+    → Passes (Exists s ts) (length ts)
+    → ((i : ℕ) → i < length ts → Code m (term_at ts i).factor)
+    → places s ≤ length row
+    → ((j : ℕ) → j < length row → get_or row j 0 ≡ 0)
+    → total m ts (row_of s row) ≡ 0
+total_none m l s ts row exist codes whole none =
+    summed_none m l (length ts) _
+    (λ i h.
+    let t = term_at ts i in
+    let below = place_below s t.head t.counter (exist i h) in
+    ap (m.product t.factor) (none (place s t.head t.counter) (omega arith)) ∙ product_zero m l t.factor (codes i h))
 
 -- a total at such a row
 pub total_cut :

@@ -27,9 +27,9 @@ fn dot<S: Scale>(scale: &S, a: &[u32], b: &[u32]) -> u32
 {
     let mut total = 0;
     for (x, y) in a.iter().zip(b) {
-        total = scale.add_product(total, *x, *y);
+        total = scale.gather(total, *x, *y);
     }
-    total
+    scale.gathered(total)
 }
 
 // Adds the multiple of a standing tie that cancels the row on the tie's pivot, and answers the multiplier.

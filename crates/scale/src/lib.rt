@@ -43,6 +43,21 @@ pub trait Scale {
         self.sum(a, self.product(b, c))
     }
 
+    // A running total, which is read as its remainder, with `b` times `c`; a scale may leave the remainder for later.
+    fn gather(&self, total: u64, b: u32, c: u32) -> u64
+        ensures { let m = meaning self.now in reading m result ≡ m.sum (reading m total) (m.product (reading m b) (reading m c)) }
+    {
+        u64::from(self.add_product(self.gathered(total), b, c))
+    }
+
+    // The code that a running total is read as.
+    fn gathered(&self, total: u64) -> u32
+        ensures { let m = meaning self.now in result ≡ reading m total }
+    {
+        let Mark { base, length, .. } = self.mark();
+        (total % u64::from(base).pow(u32::from(length))) as u32
+    }
+
     // Adds `by` times a list to another, as far as both go; a scale may have a shorter way to it.
     fn add_multiple(&self, to: &mut [u32], by: u32, from: &[u32])
         ensures { MultipleAdded (meaning self.now) by from.now to.old to.new (min (length to.old) (length from.now)) }

@@ -97,6 +97,22 @@ impl Scale for AnyScale {
         }
     }
 
+    fn gather(&self, total: u64, b: u32, c: u32) -> u64 {
+        match self {
+            AnyScale::Binary(s) => s.gather(total, b, c),
+            AnyScale::Prime(s) => s.gather(total, b, c),
+            AnyScale::Disc(s) => s.gather(total, b, c),
+        }
+    }
+
+    fn gathered(&self, total: u64) -> u32 {
+        match self {
+            AnyScale::Binary(s) => s.gathered(total),
+            AnyScale::Prime(s) => s.gathered(total),
+            AnyScale::Disc(s) => s.gathered(total),
+        }
+    }
+
     fn add_multiple(&self, to: &mut [u32], by: u32, from: &[u32]) {
         match self {
             AnyScale::Binary(s) => s.add_multiple(to, by, from),

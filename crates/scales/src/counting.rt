@@ -74,6 +74,19 @@ impl<D: Digits> Scale for Counting<D> {
             .remainder(u64::from(a) + u64::from(b) * u64::from(c))
     }
 
+    // The remainder waits until the total is too large.
+    fn gather(&self, total: u64, b: u32, c: u32) -> u64 {
+        let product = u64::from(b) * u64::from(c);
+        match total.checked_add(product) {
+            Some(sum) => sum,
+            None => u64::from(self.digits.remainder(total)) + product,
+        }
+    }
+
+    fn gathered(&self, total: u64) -> u32 {
+        self.digits.remainder(total)
+    }
+
     fn add_multiple(&self, to: &mut [u32], by: u32, from: &[u32]) {
         self.digits.add_multiple(to, by, from)
     }

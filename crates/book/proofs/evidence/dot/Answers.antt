@@ -1,8 +1,8 @@
 use Rattle.std.proofs.Common.{◌≡◌, ℕ, length, get_or, sym, ap, ◌∙◌, ap₂, add-one}
 use Rattle.std.proofs.lemmas.List.{length_push}
 use Rattle.std.proofs.lemmas.Slice.Zip.{zip_turn}
-use Rattle.scale.specs.Meaning.{summed}
-use Rattle.book.proofs.Filling.{added_is}
+use Rattle.scale.specs.Meaning.{reading, summed}
+use Rattle.scale.proofs.Codes.{reading_of}
 use Rattle.book.proofs.evidence.dot.Goals as goal
 
 pub loop-x-preserved : goal.loop-x-preserved
@@ -19,12 +19,9 @@ loop-x-preserved g c =
     in
     let x_is : c.in-Some.x.now ≡ get_or a j 0 = turn.2 0 in
     let y_is : c.in-Some.y.now ≡ get_or b j 0 = turn.3 0 in
-    let done =
-    added_is m l c.loop-x.total c.in-Some.x.now c.in-Some.y.now c.add_product-total.result
-    c.loop-x.invariant.0 (rw x_is (c.requires.codes.0 j)) (rw y_is (c.requires.codes.1 j)) c.add_product-total.ensures
-    in (
-      done.0,
-      done.1
-          ∙ ap₂ m.sum c.loop-x.invariant.1 (ap₂ m.product x_is y_is)
-          ∙ ap (λ n. summed m n F) (sym (length_push c.loop-x.yielded (c.in-Some.x, c.in-Some.y) ∙ add-one j)),
-    )
+    c.gather-total.ensures
+    ∙ ap₂ m.sum c.loop-x.invariant
+    (ap₂ m.product
+    (ap (reading m) x_is ∙ reading_of m l (get_or a j 0) (c.requires.codes.0 j))
+    (ap (reading m) y_is ∙ reading_of m l (get_or b j 0) (c.requires.codes.1 j)))
+    ∙ ap (λ n. summed m n F) (sym (length_push c.loop-x.yielded (c.in-Some.x, c.in-Some.y) ∙ add-one j))

@@ -1,34 +1,59 @@
-use Rattle.std.proofs.Common.{◌≡◌, ℕ, ◌+◌, get_or, sym, ap, ◌∙◌, ap₂, add-one, arith}
-use Rattle.scale.specs.Meaning.{summed}
+use Rattle.std.proofs.Common.{◌≡◌, ℕ, length, get_or, sym, ap, ◌∙◌, ap₂, subst, add-one, arith}
+use Rattle.scale.specs.Meaning.{Code, reading, summed}
+use Rattle.scale.proofs.Codes.{reading_code, reading_of, reading_zero, zero_code}
 use Rattle.ties.specs.Equations.{code_at, term_at}
 use Rattle.ties.specs.Layouts.{shape}
 use Rattle.ties.proofs.Places.{place_below}
 use Rattle.book.specs.Rows.{row_of}
-use Rattle.book.proofs.Filling.{added_is}
+use Rattle.book.proofs.Spots.{total_none}
 use Rattle.book.proofs.rows.total_at.Goals as goal
+
+pub returns-then-is_zero : goal.returns-then-is_zero
+returns-then-is_zero g c =
+    let tie = c.args.tie.now in
+    let m = g.S.Scale.meaning tie.scale.now in
+    let l = g.met.S.Scale.lawful tie.scale.now in
+    let none =
+    total_none m l (shape tie.layout.now) tie.tie.terms.now c.args.row.now tie.sound.exist
+    (λ i h. (tie.sound.codes i (omega (arith, h))).0 h) c.requires.whole (c.is_zero.ensures.0 c.if-is_zero.true)
+    in
+    (zero_code m l, sym none)
 
 pub bounds-row-place : goal.bounds-row-place
 bounds-row-place g c =
     let below = place_below (shape c.args.tie.now.layout.now) _ _ (c.args.tie.now.sound.exist c.loop-term.term-index c.loop-term-test.true) in
     omega (arith, c.place.ensures)
 
+pub loop-term-init : goal.loop-term-init
+loop-term-init g c =
+    let tie = c.args.tie.now in
+    reading_zero (g.S.Scale.meaning tie.scale.now) (g.met.S.Scale.lawful tie.scale.now)
+
 pub loop-term-preserved : goal.loop-term-preserved
 loop-term-preserved g c =
-    let m = g.S.Scale.meaning c.args.tie.now.scale.now in
-    let l = g.met.S.Scale.lawful c.args.tie.now.scale.now in
+    let tie = c.args.tie.now in
+    let m = g.S.Scale.meaning tie.scale.now in
+    let l = g.met.S.Scale.lawful tie.scale.now in
     let i = c.loop-term.term-index in
-    let t = term_at c.args.tie.now.tie.terms.now i in
-    let s = shape c.args.tie.now.layout.now in
+    let t = term_at tie.tie.terms.now i in
+    let s = shape tie.layout.now in
     let row = c.args.row.now in
     let x : ℕ = get_or row c.place.result 0 in
-    let done =
-    added_is m l c.loop-term.total t.factor x c.add_product-total.result
-    c.loop-term.invariant.0 ((c.args.tie.now.sound.codes i (omega (arith, c.loop-term-test.true))).0 c.loop-term-test.true) (c.requires.codes c.place.result)
-    c.add_product-total.ensures
+    let factor_is = reading_of m l t.factor ((tie.sound.codes i (omega (arith, c.loop-term-test.true))).0 c.loop-term-test.true) in
+    let code_is : reading m x ≡ code_at (row_of s row) t =
+    reading_of m l x (c.requires.codes c.place.result) ∙ ap (λ p. get_or row p 0) c.place.ensures
     in
-    let is : x ≡ code_at (row_of s row) t = ap (λ p. get_or row p 0) c.place.ensures in
-    let F : ℕ → ℕ = λ k. m.product (term_at c.args.tie.now.tie.terms.now k).factor (code_at (row_of s row) (term_at c.args.tie.now.tie.terms.now k)) in
-    let more : c.add_product-total.result ≡ summed m (i + 1) F =
-    done.1 ∙ ap₂ (λ a b. m.sum a (m.product t.factor b)) c.loop-term.invariant.1 is ∙ ap (λ n. summed m n F) (sym (add-one i))
-    in
-    (done.0, more)
+    let F : ℕ → ℕ = λ k. m.product (term_at tie.tie.terms.now k).factor (code_at (row_of s row) (term_at tie.tie.terms.now k)) in
+    c.gather-total.ensures
+    ∙ ap₂ m.sum c.loop-term.invariant (ap₂ m.product factor_is code_is)
+    ∙ ap (λ n. summed m n F) (sym (add-one i))
+
+pub returns : goal.returns
+returns g c =
+    let tie = c.args.tie.now in
+    let m = g.S.Scale.meaning tie.scale.now in
+    let l = g.met.S.Scale.lawful tie.scale.now in
+    let end : c.loop-term.term-index ≡ length tie.tie.terms.now = omega (arith, c.loop-term.auto.term-index-end, c.loop-term-test.false) in (
+      subst (Code m) (sym c.gathered.ensures) (reading_code m l c.loop-term.total),
+      c.gathered.ensures ∙ rw end at c.loop-term.invariant,
+    )

@@ -1,17 +1,15 @@
-use Rattle.std.proofs.Common.{◌≡◌, ℕ, ◌<◌, get_or}
-use Rattle.scale.specs.Meaning.{summed}
-use Rattle.ties.specs.Equations.{code_at, term_at}
-use Rattle.ties.specs.Layouts.{places, shape}
-use Rattle.book.specs.Rows.{Codes}
+use Rattle.std.proofs.Common.{◌≡◌, ℕ, ◌<◌, length, get_or}
+use Rattle.scale.specs.Meaning.{Code}
+use Rattle.ties.specs.Equations.{total}
+use Rattle.ties.specs.Layouts.{shape}
 use Rattle.book.specs.Sheets.{generator_of}
 use Rattle.book.proofs.rows.totals_at.Given as goal
 
-abbrev pub invariant-loop-term : goal.invariant-loop-term
-invariant-loop-term g l =
+abbrev pub invariant-loop-i : goal.invariant-loop-i
+invariant-loop-i g l =
     let m = g.S.Scale.meaning l.tie.scale.now in
-    let s = shape l.tie.layout.now in
-    let ts = l.tie.tie.terms.now in
-    Codes m l.totals
-    × ((i : ℕ)
-    → i < places s
-    → get_or l.totals i 0 ≡ summed m l.term-index (λ j. m.product (term_at ts j).factor (code_at (generator_of s l.rows i) (term_at ts j))))
+    let totals = l.totals.items in
+    (length totals ≡ l.i)
+    × ((j : ℕ)
+    → j < l.i
+    → Code m (get_or totals j 0) × (get_or totals j 0 ≡ total m l.tie.tie.terms.now (generator_of (shape l.tie.layout.now) l.rows j)))
