@@ -1,6 +1,7 @@
 // The entries of a file: each is five bytes of the table, and a body.
 
 ghost use Rattle.std.specs.Prelude.{◌≡◌, ◌+◌, ◌*◌, ◌<◌, ◌≤◌, length, MatchBool, MatchOption, MatchResult};
+ghost use Rattle.tie_file.specs.declared.fault.FileFault.TheVariants.{Entry as BadEntry};
 ghost use Rattle.tie_file.specs.Reading.{HasEntry, IsEntry, Unknown, kind_number};
 ghost use Rattle.tie_file.specs.Steps.{InPlace};
 ghost use Rattle.tie_file.specs.Table.{byte, extent_at, kind_at, start_at, word};
@@ -17,7 +18,7 @@ pub(crate) enum Kind {
 impl TryFrom<u8> for Kind {
     type Error = FileFault;
 
-    ghost try_from_gives = { λ n r. MatchResult r (λ k. n ≡ kind_number k) (λ _. Unknown n) };
+    ghost try_from_gives = { λ n r. MatchResult r (λ k. n ≡ kind_number k) (λ f. Unknown n × (f ≡ BadEntry)) };
 
     fn try_from(number: u8) -> Result<Kind, FileFault> {
         match number {
