@@ -3,6 +3,8 @@
 
 #![tactic(auto)]
 
+ghost use Rattle.check_multipliers.specs.Failures.{NamesWord};
+ghost use Rattle.std.specs.Prelude.{IfErr};
 ghost use Rattle.std.specs.Str.Parse.{ParsesUnsigned};
 
 use failure::Failure;
@@ -43,6 +45,7 @@ fn run(rt: &HostRuntime) -> Result<(), Failure> {
 // The number below 2^32 that the word writes in base ten, where a plus may stand first; an error exactly where it writes none.
 fn multiplier(rt: &HostRuntime, word: &str) -> Result<u32, Failure>
     ensures reads { ParsesUnsigned 32 10 word.now result }
+    ensures told { IfErr result (NamesWord word.now) }
 {
     match word.parse::<u32>() {
         Ok(number) => Ok(number),
