@@ -70,8 +70,8 @@ struct counter_ties_summary {
     uint8_t stopped;                     /* the number of the refusal of the tie behind those, or 0 where all stand */
     uint8_t heads;
     uint8_t counters;                    /* on each head */
-    uint8_t settled[32];                 /* how many digits of each counter's code are settled, by head, then counter;
-                                            of those behind the last counter nothing is said */
+    uint8_t settled[32];                 /* how many digits of each counter's code are settled, by head, then counter, and
+                                            0 behind the last counter */
 };
 
 #if defined(__STDC_VERSION__) && __STDC_VERSION__ >= 201112L

@@ -4,7 +4,7 @@ use Rattle.scale.specs.Meaning.{Meaning}
 use Rattle.scales.specs.Kinds.{Numbers, named}
 use Rattle.scales.specs.Made.{any_scale}
 use Rattle.scales.specs.declared.any.AnyScale.{AnyScale}
-use Rattle.ties.specs.Layouts.{Assignment, Has, Shape, Sized, Within, counters_of, place, shape}
+use Rattle.ties.specs.Layouts.{Assignment, Has, Shape, Sized, Within, counters_of, place, places, shape}
 use Rattle.ties.specs.Equations.{Count, Equation, Solves, nth_equation}
 use Rattle.ties.specs.Faults.{BadLayout}
 use Rattle.tie_file.specs.Table.{WellFormed}
@@ -55,12 +55,13 @@ abbrev pub SettledAt : Meaning → Shape → List Equation → ℕ → ℕ → �
 SettledAt m s es h c = SettledDigits m s es (own m h c)
 
 -- what a report says of the digits: exactly q^F assignments meet the equations, where F is the number of free digits, and
--- each counter of the shape has its settled digits at its place
+-- each counter of the shape has its settled digits at its place; behind the last counter stands 0
 pub record Digits (m : Meaning) (s : Shape) (es : List Equation) (r : Report) : Type 0 where
   pub count : Count m s es r.free
   pub heads : r.heads ≡ s.heads
   pub counters : r.counters ≡ counters_of s
   pub settled : (h c : ℕ) → Has s h c → SettledAt m s es h c (slice_index r.settled (place s h c))
+  pub rest : (i : ℕ) → places s ≤ i → slice_index r.settled i ≡ 0
 
 -- what a report says of ties: each of those that stand is accepted behind the ones before it, some assignment meets all
 -- of them, and the digits are theirs

@@ -1,7 +1,8 @@
-use Rattle.std.proofs.Common.{◌≡◌, ℕ, ◌*◌, ◌/◌, ◌%◌, ◌≤◌, List, ◌++◌, drop, get_or, replicate, sym, ◌∙◌, ap₂, subst, arith}
-use Rattle.std.proofs.lemmas.List.{get_or_append_left, length-take}
+use Rattle.std.proofs.Common.{◌≡◌, ℕ, ◌+◌, ◌-◌, ◌*◌, ◌/◌, ◌%◌, ◌≤◌, List, ◌++◌, drop, get_or, replicate, sym, ◌∙◌, ap₂, subst, arith}
+use Rattle.std.proofs.lemmas.List.{get_or-append_right, get_or-drop, get_or_append_left, length-take}
 use Rattle.ties.specs.Layouts.{counters_of, places, shape}
 use Rattle.ties.proofs.Places.{layout_sized, places_most}
+use Rattle.multipliers.proofs.Concluding.{zeros_read}
 use Rattle.book.specs.Standing.{ledger}
 use Rattle.report.specs.Reported.{SettledAt}
 use Rattle.report.proofs.Own.{by_counter}
@@ -24,8 +25,17 @@ returns g c =
     let most : places s ≤ 32 = places_most s (layout_sized b.layout) in
     let long = length-take {A = ℕ} (c.from.result * c.from-counters.result) (replicate 32 0) in
     let rest : List ℕ = drop (c.from.result * c.from-counters.result) (replicate 32 0) in
+    let settled =
     by_counter s (λ h k i. SettledAt (g.S.Scale.meaning b.scale) s (ledger b.table) h k (get_or (c.loop-i.digits-items ++ rest) i 0))
     (λ i below.
     subst (λ (v : ℕ). SettledAt (g.S.Scale.meaning b.scale) s (ledger b.table) (i / counters_of s) (i % counters_of s) v)
     (sym (get_or_append_left c.loop-i.digits-items rest 0 i (omega (arith, below, all, most, long, c.loop-i.auto.digits-items))))
-    (c.loop-i.invariant i (omega (arith, below, all, most, long, c.loop-i-test.false))))
+    (c.loop-i.invariant i (omega (arith, below, all, most, long, c.loop-i-test.false)))) in
+    record {
+      counters = settled;
+      rest = λ i behind.
+          get_or-append_right c.loop-i.digits-items rest (places s) i 0
+          (omega (arith, all, most, long, c.loop-i.auto.digits-items, c.loop-i-test.false)) behind
+          ∙ get_or-drop (c.from.result * c.from-counters.result) (replicate 32 0) (i - places s) 0
+          ∙ zeros_read 32 (c.from.result * c.from-counters.result + (i - places s));
+    }
