@@ -1,6 +1,6 @@
 """Solves the same systems by the library and its peers, compares the answers, and prints the times as ratios.
 
-    bench/run [--turns N]
+    bench/run [--turns N] [--instructions]
 """
 
 import argparse
@@ -55,7 +55,8 @@ class Peer:
     """A shared library whose calls take a file and how many times to do their work, and answer the free digits."""
 
     def __init__(self, path, prefix):
-        self.calls = ctypes.CDLL(str(path))
+        self.path = str(path)
+        self.calls = ctypes.CDLL(self.path)
         self.prefix = prefix
 
     def timed(self, task, data, turns):
@@ -69,6 +70,23 @@ class Peer:
             answer = call(data, len(data), turns)
             best = min(best, time.perf_counter() - begin)
         return best / turns, answer
+
+    def counted(self, task, data):
+        """The instructions of one turn, by callgrind: what ten turns more take."""
+        file = TOP / "bench" / "out" / "system"
+        file.write_bytes(data)
+        few, many = (
+            subprocess.run(
+                ["valgrind", "--tool=callgrind", "--callgrind-out-file=/dev/null", str(TOP / "bench" / "out" / "driver")]
+                + [self.path, f"{self.prefix}_{task}", str(file), str(turns)],
+                capture_output=True,
+                text=True,
+                check=True,
+            ).stderr
+            for turns in (2, 12)
+        )
+        collected = [int(said.rsplit("Collected : ", 1)[1].split()[0]) for said in (few, many)]
+        return (collected[1] - collected[0]) / 10
 
 
 PARI = """
@@ -111,7 +129,9 @@ def by_gap(factors, rights, size, base, turns):
 def main():
     parser = argparse.ArgumentParser()
     parser.add_argument("--turns", type=int, default=400)
-    turns = parser.parse_args().turns
+    parser.add_argument("--instructions", action="store_true")
+    asked = parser.parse_args()
+    turns, counting = asked.turns, asked.instructions
     out = TOP / "bench" / "out"
     ours = Peer(out / "libours.so", "bench")
     plain = Peer(out / "libplain.so", "plain")
@@ -159,6 +179,30 @@ def main():
         for label, seconds, base_time in rows:
             ratio = "" if base_time is None else f"{seconds / base_time:10.2f}"
             print(f"  {label:40} {seconds * 1e6:12.2f} {ratio}")
+        if counting:
+            print_counts(ours, plain, flint, data)
+
+
+def print_counts(ours, plain, flint, data):
+    """The instructions of each task, and how often ours go into the other's."""
+    print("  instructions")
+    whole = {}
+    for peer, label in [(ours, "ours"), (plain, "plain Rust"), (flint, "FLINT, Howell form")]:
+        whole[label] = peer.counted("whole", data)
+        print_count(f"whole system, {label}", whole[label], whole["ours"])
+    ours_back, plain_back = (
+        (peer.counted("unload", data) - whole[label]) / TIES for peer, label in [(ours, "ours"), (plain, "plain Rust")]
+    )
+    print_count("a post, ours", whole["ours"] / TIES, whole["ours"] / TIES)
+    print_count("a withdrawal, ours", ours_back, ours_back)
+    print_count("a withdrawal, plain Rust", plain_back, ours_back)
+    refusal = ours.counted("refuse", data)
+    print_count("a refusal with multipliers, ours", refusal, refusal)
+    print_count("a refusal with multipliers, plain Rust", plain.counted("refuse", data), refusal)
+
+
+def print_count(label, count, base_count):
+    print(f"    {label:38} {count:12.0f} {count / base_count:10.2f}")
 
 
 def meets(solution, factors, rights, size):
