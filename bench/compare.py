@@ -176,6 +176,7 @@ def main():
         refusal_plain, _ = plain.timed("refuse", data, turns * 10)
         rows.append(("a refusal with multipliers, ours", refusal, None))
         rows.append(("a refusal with multipliers, plain Rust", refusal_plain, refusal))
+        rows.append(("a sheet, ours", ours.timed("draw", data, turns * 10)[0], None))
         for label, seconds, base_time in rows:
             ratio = "" if base_time is None else f"{seconds / base_time:10.2f}"
             print(f"  {label:40} {seconds * 1e6:12.2f} {ratio}")

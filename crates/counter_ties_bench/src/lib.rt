@@ -24,3 +24,9 @@ pub extern "C" fn bench_unload(heap: Global, file: &[u8], times: u32) -> u32 {
 pub extern "C" fn bench_refuse(heap: Global, file: &[u8], times: u32) -> u32 {
     with_scale(heap, file, Task::Refuse, times)
 }
+
+// Posts the ties of the file, and then draws the sheet each time; answers some number of a sheet.
+#[unsafe(no_mangle)]
+pub extern "C" fn bench_draw(heap: Global, file: &[u8], times: u32) -> u32 {
+    with_scale(heap, file, Task::Draw, times)
+}

@@ -13,6 +13,7 @@ pub enum Task {
     Whole,
     Unload,
     Refuse,
+    Draw,
 }
 
 // No number of free digits: the file is none that can be timed.
@@ -44,6 +45,7 @@ fn perform<S: Scale + Copy + Drop>(
         Task::Whole => whole(heap, scale, file, times),
         Task::Unload => unload(heap, scale, file, times),
         Task::Refuse => refuse(heap, scale, file, times),
+        Task::Draw => draw(heap, scale, file, times),
     }
 }
 
@@ -84,6 +86,18 @@ fn unload<S: Scale + Copy + Drop>(heap: Global, scale: S, file: &TieFile, times:
         free = free_digits(&book);
     }
     free
+}
+
+// Each sheet is drawn to another place, so that a compiler can't leave one out.
+fn draw<S: Scale + Copy + Drop>(heap: Global, scale: S, file: &TieFile, times: u32) -> u32 {
+    let Some(book) = loaded(heap, scale, file) else {
+        return NONE;
+    };
+    let mut sheets = [0; 2112];
+    for turn in 0..times {
+        let _ = book.sheet(&mut sheets[turn as usize % 1056..]);
+    }
+    sheets[times as usize % 2112]
 }
 
 fn refuse<S: Scale + Copy + Drop>(heap: Global, scale: S, file: &TieFile, times: u32) -> u32 {
