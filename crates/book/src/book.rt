@@ -14,8 +14,8 @@ pub struct Open;
 // The phase in which a book takes no ties.
 pub struct Closed;
 
-// A book draws sheets and answers queries in both phases. The scale is a value of its own, so that one book serves
-// every scale.
+// A book draws sheets, counts free digits, answers queries and writes files in both phases. The scale is a value of its
+// own, so that one book serves every scale.
 #[derive(Drop)]
 pub struct Book<S: Scale, P> {
     scale: S,

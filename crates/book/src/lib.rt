@@ -1,4 +1,5 @@
-// A book of ties over one scale: posting ties, drawing sheets of all solutions, and querying ties.
+// A book of ties over one scale: it takes ties and takes the last off again, draws sheets of all solutions, answers
+// queries, and loads and writes tie files.
 
 #![tactic(auto)]
 

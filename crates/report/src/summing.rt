@@ -5,7 +5,6 @@ ghost use Rattle.book.specs.Loading.{accepted_of};
 ghost use Rattle.book.specs.Standing.{ledger};
 ghost use Rattle.report.specs.Reported.{Digits, Reported, stop_of};
 ghost use Rattle.tie_file.specs.Bodies.{equations};
-ghost use Rattle.ties.specs.Equations.{Count};
 ghost use Rattle.ties.specs.Layouts.{shape};
 
 use crate::answer::Report;
@@ -36,19 +35,10 @@ fn sum_up<S: Scale>(book: &Book<S, Open>, posted: Result<usize, Stop>) -> Report
     };
     Report {
         standing,
-        free: free_digits(book),
+        free: book.free_digits(),
         stopped,
         heads: book.heads(),
         counters: book.counters(),
         settled: settled_digits(book),
     }
-}
-
-// How many digits the standing ties leave free.
-fn free_digits<S: Scale>(book: &Book<S, Open>) -> u16
-    ensures { let b = book.now in Count (S.Scale.meaning b.scale) (shape b.layout) (ledger b.table) result }
-{
-    // a sheet has 32 × 33 numbers at most
-    let mut sheet = [0; 1056];
-    book.sheet(&mut sheet).unwrap()
 }

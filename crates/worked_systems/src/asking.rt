@@ -2,7 +2,7 @@
 
 ghost use Rattle.std.specs.Prelude.{◌≡◌, ℕ, ◌<◌, ◌==◌, false, replicate, slice_index_or, MatchResult};
 ghost use Rattle.scale.specs.Meaning.{reading};
-ghost use Rattle.ties.specs.Equations.{Count, equation};
+ghost use Rattle.ties.specs.Equations.{equation};
 ghost use Rattle.ties.specs.Faults.{Faulty};
 ghost use Rattle.ties.specs.Layouts.{shape};
 ghost use Rattle.book.specs.Posting.{Posted, PostedTo};
@@ -55,15 +55,6 @@ pub fn post<S: Scale>(book: &mut Book<S, Open>, tie: &Tie) -> Result<u8, PostFau
     ensures book { Posted S.Scale.meaning book.old (equation tie.now) result book.new }
 {
     book.post(tie, &mut [0; 64])
-}
-
-// How many digits the standing ties leave free.
-pub fn free_digits<S: Scale>(book: &Book<S, Open>) -> u16
-    ensures { let b = book.now in Count (S.Scale.meaning b.scale) (shape b.layout) (ledger b.table) result }
-{
-    // a sheet has 32 × 33 numbers at most
-    let mut sheet = [0; 1056];
-    book.sheet(&mut sheet).unwrap()
 }
 
 // How many digits of a tie's value the standing ties settle.

@@ -1,5 +1,9 @@
-ghost use Rattle.book.specs.Drawing.{DrawStopped, DrawnFrom};
+ghost use Rattle.book.specs.Drawing.{DrawStopped, DrawnFrom, free_of};
+ghost use Rattle.std.specs.Prelude.{◌≡◌};
+ghost use Rattle.book.specs.Standing.{ledger};
 ghost use Rattle.std.specs.Result.{MatchResult};
+ghost use Rattle.ties.specs.Equations.{Count};
+ghost use Rattle.ties.specs.Layouts.{shape};
 
 use crate::book::Book;
 use crate::fault::SheetFault;
@@ -17,5 +21,14 @@ impl<S: Scale, P> Book<S, P> {
         }
         list[..size].copy_from_slice(&self.table.rows);
         Ok(self.table.free)
+    }
+
+    // The number of free digits, which a sheet answers too: as many different assignments meet the standing ties as
+    // there are numbers of so many digits.
+    pub fn free_digits(&self) -> u16
+        ensures count { let b = self.now in Count (S.Scale.meaning b.scale) (shape b.layout) (ledger b.table) result }
+        ensures same { result ≡ free_of self.now }
+    {
+        self.table.free
     }
 }

@@ -3,7 +3,7 @@ ghost use Rattle.book.specs.declared.fault.OpenFault.TheVariants.{Memory};
 ghost use Rattle.worked_systems.specs.Found.{PairFound};
 ghost use Rattle.worked_systems.specs.Worked as worked;
 
-use crate::asking::{free_digits, post, settled, term, tie};
+use crate::asking::{post, settled, term, tie};
 use crate::findings::Pair;
 use book::Book;
 use book::fault::OpenFault;
@@ -25,10 +25,10 @@ pub fn find_pair<S: Scale + Drop>(heap: Global, scale: S) -> Result<Pair, OpenFa
     ensures { MatchResult result PairFound (λ fault. fault ≡ Memory) }
 {
     let mut book = Book::new(heap, scale, 2, &[3])?;
-    let free = free_digits(&book);
+    let free = book.free_digits();
     let both = [term(0, 0, 2), term(1, 0, 4)];
     let first = post(&mut book, &tie(0, 6, &both));
-    let left = free_digits(&book);
+    let left = book.free_digits();
     let x = settled(&book, &tie(0, 0, &[term(0, 0, 1)]));
     let y = settled(&book, &tie(0, 0, &[term(1, 0, 1)]));
     let four_x = [term(0, 0, 4)];

@@ -3,7 +3,7 @@ ghost use Rattle.book.specs.declared.fault.OpenFault.TheVariants.{Memory};
 ghost use Rattle.worked_systems.specs.Found.{SingleFound};
 ghost use Rattle.worked_systems.specs.Worked as worked;
 
-use crate::asking::{free_digits, post, term, tie};
+use crate::asking::{post, term, tie};
 use crate::findings::Single;
 use book::Book;
 use book::fault::OpenFault;
@@ -28,7 +28,7 @@ pub fn find_single<S: Scale + Drop>(heap: Global, scale: S) -> Result<Single, Op
     let four = post(&mut book, &tie(0, 4, &three_x));
     let three = check(book.scale(), &ONE_TIE, &[3]);
     let six = post(&mut book, &tie(0, 6, &three_x));
-    let left = free_digits(&book);
+    let left = book.free_digits();
     Ok(Single {
         four,
         three,

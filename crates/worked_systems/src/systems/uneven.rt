@@ -3,7 +3,7 @@ ghost use Rattle.book.specs.declared.fault.OpenFault.TheVariants.{Memory};
 ghost use Rattle.worked_systems.specs.Found.{UnevenFound};
 ghost use Rattle.worked_systems.specs.Worked as worked;
 
-use crate::asking::{free_digits, post, term, tie};
+use crate::asking::{post, term, tie};
 use crate::findings::Uneven;
 use book::Book;
 use book::fault::OpenFault;
@@ -20,7 +20,7 @@ pub fn find_uneven<S: Scale + Drop>(heap: Global, scale: S) -> Result<Uneven, Op
     let factor_four = post(&mut book, &tie(0, 0, &[term(0, 1, 4)]));
     book.withdraw().unwrap();
     let sum = post(&mut book, &tie(1, 1, &[term(0, 0, 1), term(0, 1, 1)]));
-    let left = free_digits(&book);
+    let left = book.free_digits();
     Ok(Uneven {
         factor_two,
         factor_four,

@@ -46,9 +46,9 @@ returns g c =
     let over-2 = ap meaning c.scale-2.ensures ∙ two.1.0 in
     let over-3 = ap meaning c.scale-3.ensures ∙ two.1.0 in
     record {
-      free = free_is meaning binary l pair empty [] start c.free_digits-free.result 6 known.pair_free c.free_digits-free.ensures;
+      free = free_is meaning binary l pair empty [] start c.free_digits-free.result 6 known.pair_free c.free_digits-free.ensures.count;
       first = one.0;
-      left = free_is meaning binary l pair after es one.1 c.free_digits-left.result 4 known.first_leaves c.free_digits-left.ensures;
+      left = free_is meaning binary l pair after es one.1 c.free_digits-left.result 4 known.first_leaves c.free_digits-left.ensures.count;
       x = x;
       y = y;
       other = two.0;

@@ -35,5 +35,5 @@ returns g c =
       six = two.0;
       left =
           free_is meaning ternary l single last (three_x_is_six ∷ []) two.1 c.free_digits-left.result 1 known.ternary_leaves
-          c.free_digits-left.ensures;
+          c.free_digits-left.ensures.count;
     }

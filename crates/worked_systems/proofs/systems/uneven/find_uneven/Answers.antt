@@ -58,5 +58,5 @@ returns g c =
       sum = four.0;
       left =
           free_is meaning binary l uneven c.post-sum.new.book (sum_is_one ∷ []) four.1 c.free_digits-left.result 3
-          known.sum_leaves c.free_digits-left.ensures;
+          known.sum_leaves c.free_digits-left.ensures.count;
     }
