@@ -1,6 +1,7 @@
 -- A pivot among products.
 use Rattle.std.specs.Prelude.{◌≡◌, ℕ, ◌+◌, ◌<◌, ◌≤◌, List, length, slice_index}
 use Rattle.scale.specs.Meaning.{Meaning, Quotient, power}
+use Rattle.book.specs.declared.dividing.Choice.{Choice}
 use Rattle.book.specs.declared.dividing.Divisor.{Divisor}
 
 -- the level of a code, and a cofactor that makes it the step to that power
@@ -18,6 +19,11 @@ pub record Scanned (m : Meaning) (ds : List ℕ) (n p : ℕ) (qs : List ℕ) : T
   pub lowest : Lowest m ds n p
   pub count : p + length qs ≡ n
   pub found : (k : ℕ) → k < length qs → Quotient m (slice_index ds (p + k)) (slice_index ds p) (slice_index qs k)
+
+-- one of them is chosen, and what divides by it
+pub record Chosen (m : Meaning) (ds : List ℕ) (c : Choice) : Type 0 where
+  pub scanned : Scanned m ds (length ds) c.number c.quotients.items
+  pub divisor : DividesBy m (slice_index ds c.number) c.divisor
 
 -- a number divides each of the first list, and these are the quotients
 abbrev pub Divides : Meaning → List ℕ → ℕ → List ℕ → Type 0

@@ -1,7 +1,7 @@
 // The choice of a pivot among products: one that divides all of them, with the quotients.
 
-ghost use Rattle.std.specs.Prelude.{◌≡◌, ℕ, ◌≤◌, length, slice_index};
-ghost use Rattle.book.specs.Dividing.{Divides, DividesBy, Scanned};
+ghost use Rattle.std.specs.Prelude.{ℕ, ◌≤◌, length, slice_index};
+ghost use Rattle.book.specs.Dividing.{Chosen, Divides, DividesBy};
 ghost use Rattle.book.specs.Rows.{Codes};
 ghost use Rattle.scale.specs.Meaning.{Code, Divided};
 
@@ -28,6 +28,8 @@ pub struct Divisor {
 }
 
 impl Divisor {
+    // The cofactor is a quotient of the step to the power of the level by the code; it is found here, once for all
+    // products.
     pub fn of<S: Scale>(scale: &S, code: u32) -> Divisor
         requires { Code (S.Scale.meaning scale.now) code }
         ensures { DividesBy (S.Scale.meaning scale.now) code result }
@@ -39,6 +41,7 @@ impl Divisor {
         }
     }
 
+    // Some quotient of `a` by the code that this was made of.
     pub fn quotient<S: Scale>(self, scale: &S, a: u32) -> Option<u32>
         requires { Code (S.Scale.meaning scale.now) a }
         ensures { let m = S.Scale.meaning scale.now in (b : ℕ) → Code m b → DividesBy m b self → Divided m a b result }
@@ -48,51 +51,56 @@ impl Divisor {
     }
 }
 
-// The last product that the one chosen before it does not divide, what divides by it, and the quotients of those from it
+// The product chosen among those that were looked at: its number, what divides by it, and the quotients of those from it
 // on.
-pub fn scan<S: Scale>(
-    scale: &S,
-    products: &ArrayVec<u32, 32>,
-) -> (usize, Divisor, ArrayVec<u32, 32>)
+#[derive(Drop)]
+pub struct Choice {
+    pub number: usize,
+    pub divisor: Divisor,
+    pub quotients: ArrayVec<u32, 32>,
+}
+
+// The last product that the one chosen before it does not divide: it divides all of them.
+pub fn choose<S: Scale>(scale: &S, products: &ArrayVec<u32, 32>) -> Choice
     requires codes { Codes (S.Scale.meaning scale.now) products.now.items }
     requires some { 1 ≤ length products.now.items }
-    ensures divisor { let ds = products.now.items in DividesBy (S.Scale.meaning scale.now) (slice_index ds result.0) result.1 }
-    ensures scanned { let ds = products.now.items in Scanned (S.Scale.meaning scale.now) ds (length ds) result.0 result.2.items }
+    ensures { Chosen (S.Scale.meaning scale.now) products.now.items result }
 {
-    let mut pivot = 0;
+    let mut number = 0;
     let mut divisor = Divisor::of(scale, products[0]);
     let mut quotients = ArrayVec::new();
     for (i, product) in products.iter().enumerate() {
         match divisor.quotient(scale, *product) {
             Some(quotient) => quotients.push(quotient),
             None => {
-                pivot = i;
+                number = i;
                 divisor = Divisor::of(scale, *product);
                 quotients.clear();
                 quotients.push(scale.one());
             }
         }
     }
-    (pivot, divisor, quotients)
+    Choice {
+        number,
+        divisor,
+        quotients,
+    }
 }
 
-// The quotients of all products by the pivot's, where those from it on are found.
-pub fn complete<S: Scale>(
+// The quotients of all products by the chosen one.
+pub fn quotients<S: Scale>(
     scale: &S,
     products: &ArrayVec<u32, 32>,
-    pivot: usize,
-    divisor: Divisor,
-    found: &[u32],
+    choice: &Choice,
 ) -> ArrayVec<u32, 32>
     requires codes { Codes (S.Scale.meaning scale.now) products.now.items }
-    requires divisor { let ds = products.now.items in DividesBy (S.Scale.meaning scale.now) (slice_index ds pivot) divisor }
-    requires scanned { let ds = products.now.items in Scanned (S.Scale.meaning scale.now) ds (length ds) pivot found.now }
-    ensures { let ds = products.now.items in Divides (S.Scale.meaning scale.now) ds (slice_index ds pivot) result.items }
+    requires chosen { Chosen (S.Scale.meaning scale.now) products.now.items choice.now }
+    ensures { let ds = products.now.items in Divides (S.Scale.meaning scale.now) ds (slice_index ds choice.now.number) result.items }
 {
     let mut quotients = ArrayVec::new();
-    for product in &products[..pivot] {
-        quotients.push(divisor.quotient(scale, *product).unwrap());
+    for product in &products[..choice.number] {
+        quotients.push(choice.divisor.quotient(scale, *product).unwrap());
     }
-    quotients.try_extend_from_slice(found).unwrap();
+    quotients.try_extend_from_slice(&choice.quotients).unwrap();
     quotients
 }

@@ -6,7 +6,7 @@ ghost use Rattle.book.specs.Rows.{Codes};
 ghost use Rattle.ties.specs.Equations.{equation};
 ghost use Rattle.ties.specs.Layouts.{places, shape};
 
-use crate::dividing::{complete, scan};
+use crate::dividing::{choose, quotients};
 use crate::measured::Measured;
 use crate::pivot::Pivot;
 use crate::rows::{multiply, total_at, totals_at};
@@ -25,7 +25,8 @@ pub fn measure<S: Scale>(tie: &SoundTie<S>, rows: &[u32]) -> Measured
     let raise = tie.raise();
     let mut products = totals_at(tie, rows);
     multiply(scale, &mut products, raise);
-    let (number, divisor, found) = scan(scale, &products);
+    let choice = choose(scale, &products);
+    let number = choice.number;
     let at = n + number * n;
     let reached = scale.product(raise, total_at(tie, &rows[..n]));
     Measured {
@@ -33,7 +34,7 @@ pub fn measure<S: Scale>(tie: &SoundTie<S>, rows: &[u32]) -> Measured
             number,
             row: ArrayVec::try_from(&rows[at..at + n]).unwrap(),
             divisor: products[number],
-            quotients: complete(scale, &products, number, divisor, &found),
+            quotients: quotients(scale, &products, &choice),
         },
         rest: scale.sum(scale.product(raise, tie.tie.right), scale.negative(reached)),
     }

@@ -35,9 +35,9 @@ slice_bounds-try_from-end g c =
     let is = c.places-n.ensures.0 in
     let long : length c.args.rows.now ≡ n + n * n = c.requires.size ∙ ap (λ k. k + k * k) (sym is) in
     let same = c.multiply.auto.row ∙ ap length c.deref_mut.ensures.value in
-    let chosen = rw (written_back c.totals_at-products.result.items c.multiply.new.row same) at c.scan-number.ensures.scanned in
-    let below : c.scan-number.result.0 < n = omega (arith, chosen.lowest.0, same, c.totals_at-products.ensures.count) in
-    omega (arith, row_inside n c.scan-number.result.0 below)
+    let chosen = rw (written_back c.totals_at-products.result.items c.multiply.new.row same) at c.choose-choice.ensures.scanned in
+    let below : c.choose-choice.result.number < n = omega (arith, chosen.lowest.0, same, c.totals_at-products.ensures.count) in
+    omega (arith, row_inside n c.choose-choice.result.number below)
 
 pub returns : goal.returns
 returns g c =
@@ -48,8 +48,8 @@ returns g c =
     let rows = c.args.rows.now in
     let ts = c.totals_at-products in
     let ds = c.multiply.new.row in
-    let qs = c.complete.result.items in
-    let p = c.scan-number.result.0 in
+    let qs = c.quotients.result.items in
+    let p = c.choose-choice.result.number in
     let raise = c.raise-raise.result in
     let raise_is : raise ≡ power m (digits m - depth s e) = c.raise-raise.ensures in
     let raise_code : Code m raise = subst (Code m) (sym raise_is) (power_code m l (digits m - depth s e)) in
@@ -63,8 +63,8 @@ returns g c =
     let at_point = total_cut m s e.terms rows 0 0 _ c.args.tie.now.sound.exist refl c.places-n.ensures.0 in
     let same : length ds ≡ length ts.result.items = c.multiply.auto.row ∙ ap length c.deref_mut.ensures.value in
     let back = written_back ts.result.items ds same in
-    let chosen = rw back at c.scan-number.ensures.scanned in
-    let divided = rw back at c.complete.ensures in
+    let chosen = rw back at c.choose-choice.ensures.scanned in
+    let divided = rw back at c.quotients.ensures in
     let count : length ds ≡ places s = same ∙ ts.ensures.count in
     let products : (i : ℕ) → i < places s → get_or ds i 0 ≡ raised m s e (generator_of s rows i) =
     λ i h.

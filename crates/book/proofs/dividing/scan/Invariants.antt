@@ -1,9 +1,0 @@
-use Rattle.std.proofs.Common.{◌<◌, length, get_or}
-use Rattle.book.specs.Dividing.{DividesBy, Scanned}
-use Rattle.book.proofs.dividing.scan.Given as goal
-
-abbrev pub invariant-loop-i : goal.invariant-loop-i
-invariant-loop-i g l =
-    (l.pivot < length l.products.items)
-    × DividesBy (g.S.Scale.meaning l.scale) (get_or l.products.items l.pivot 0) l.divisor
-    × Scanned (g.S.Scale.meaning l.scale) l.products.items l.i l.pivot l.quotients.items
