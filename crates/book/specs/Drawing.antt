@@ -25,9 +25,9 @@ pub record SameSheet (m : Meaning) (s : Shape) (es : List Equation) (xs : List �
     pub sheet : take (sheet_size s) new ≡ xs
     pub free : f ≡ digits
 
--- a list that is too short for a sheet is kept
-abbrev pub Kept : Shape → List ℕ → List ℕ → Type 0
-Kept s old new = (length old < sheet_size s) × (new ≡ old)
+-- a list that has fewer numbers than are to be written is kept
+abbrev pub TooShort : ℕ → List ℕ → List ℕ → Type 0
+TooShort size old new = (length old < size) × (new ≡ old)
 
 -- the same of a book, whose sheet and free digits are always the same
 module _ {S : Type 0} where
@@ -41,4 +41,4 @@ module _ {S : Type 0} where
   DrawnFrom meaning b = SameSheet (meaning b.scale) (shape b.layout) (ledger b.table) (sheet_of b) (free_of b)
 
   abbrev pub DrawStopped : Held S → List ℕ → List ℕ → Type 0
-  DrawStopped b = Kept (shape b.layout)
+  DrawStopped b = TooShort (sheet_size (shape b.layout))

@@ -1,11 +1,11 @@
 -- Writing a book as a tie file.
 use Rattle.std.specs.Prelude.{◌≡◌, ℕ, ◌<◌, List, length, take, Result, MatchResult}
 use Rattle.scale.specs.Meaning.{Meaning}
-use Rattle.ties.specs.Layouts.{Shape, shape}
-use Rattle.ties.specs.Equations.{Equation}
+use Rattle.ties.specs.Layouts.{shape}
 use Rattle.tie_file.specs.Bodies.{equations}
 use Rattle.tie_file.specs.Writing.{Bytes, Written, file_size}
 use Rattle.book.specs.declared.fault.WriteFault.{WriteFault}
+use Rattle.book.specs.Drawing.{TooShort}
 use Rattle.book.specs.Loading.{Loadable}
 use Rattle.book.specs.Held.{Held}
 use Rattle.book.specs.Standing.{ledger}
@@ -14,12 +14,8 @@ use Rattle.book.specs.Standing.{ledger}
 abbrev pub WrittenFrom : {S : Type 0} → (S → Meaning) → Held S → List ℕ → List ℕ → ℕ → Type 0
 WrittenFrom meaning b = Written (meaning b.scale).mark (shape b.layout) (ledger b.table)
 
--- a list that is shorter than the file is kept
-abbrev pub TooShort : Shape → List Equation → List ℕ → List ℕ → Type 0
-TooShort s es old new = (length old < file_size s es) × (new ≡ old)
-
 abbrev pub WriteStopped : {S : Type 0} → Held S → List ℕ → List ℕ → Type 0
-WriteStopped b = TooShort (shape b.layout) (ledger b.table)
+WriteStopped b = TooShort (file_size (shape b.layout) (ledger b.table))
 
 -- a file for the book's scale and layout whose ties are just those that stand is what is written, or the list is shorter
 -- than it

@@ -11,7 +11,7 @@ use Rattle.multipliers.specs.Refuting.{Refutes}
 use Rattle.marked_check.specs.declared.fault.MarkedFault.{MarkedFault}
 use Rattle.marked_check.specs.Marked.{MarkedStopped, marked_number, marked_place, marked_tie, scale_of}
 use Rattle.book.specs.declared.fault.Stop.{Stop}
-use Rattle.book.specs.Drawing.{Drawn, Kept}
+use Rattle.book.specs.Drawing.{Drawn, TooShort, sheet_size}
 use Rattle.book.specs.Faults.{post_place, post_refusal}
 use Rattle.book.specs.Loading.{accepted_of}
 use Rattle.report.specs.declared.answer.Report.{Report}
@@ -46,7 +46,7 @@ DrawnOf f old new free =
 abbrev pub SheetOut : List ℕ → List ℕ → List ℕ → ℕ → ℕ → ℕ → Type 0
 SheetOut f old new had has n =
     ((n ≡ 0) × Openable f × DrawnOf f old new has)
-    ⊎ ((n ≡ number refusal.List) × Openable f × Kept (file_shape f) old new × (has ≡ had))
+    ⊎ ((n ≡ number refusal.List) × Openable f × TooShort (sheet_size (file_shape f)) old new × (has ≡ had))
     ⊎ (Unopened f n × (new ≡ old) × (has ≡ had))
 
 -- how posting a file's ties ended: 0, or the refusal's number, with the tie and the term

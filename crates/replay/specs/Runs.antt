@@ -9,7 +9,7 @@ use Rattle.ties.specs.Equations.{Equation, Solves, equation, nth_equation}
 use Rattle.ties.specs.declared.fault.TieFault.{TieFault}
 use Rattle.ties.specs.Faults.{Faulty, Sound}
 use Rattle.tie_file.specs.Bodies.{equations}
-use Rattle.tie_file.specs.Writing.{Written}
+use Rattle.tie_file.specs.Writing.{Written, file_size}
 use Rattle.book.specs.declared.fault.LoadFault.{LoadFault}
 use Rattle.book.specs.declared.fault.PostFault.{PostFault}
 use Rattle.book.specs.declared.fault.SheetFault.{SheetFault}
@@ -17,8 +17,7 @@ use Rattle.book.specs.declared.fault.WithdrawFault.{WithdrawFault}
 use Rattle.book.specs.declared.fault.WriteFault.{WriteFault}
 use Rattle.book.specs.Posting.{Answered, Listing}
 use Rattle.book.specs.Loading.{LoadAnswered, LoadListing, Loadable}
-use Rattle.book.specs.Drawing.{Kept, SameSheet}
-use Rattle.book.specs.Writing.{TooShort}
+use Rattle.book.specs.Drawing.{SameSheet, TooShort, sheet_size}
 use Rattle.book.specs.declared.reading.Reading.{Reading}
 use Rattle.book.specs.Querying.{Queried}
 use Rattle.replay.specs.declared.answer.Answer.{Answer}
@@ -85,11 +84,11 @@ pub data Replies (m : Meaning) (s : Shape) (p : Place) : Call → Answer → Typ
       → Replies m s p (call.View (view.Query t)) (answer.Query r)
   sheet :
       (list : Bor (List ℕ)) (r : Result ℕ SheetFault) (new : Vec ℕ Global)
-      → MatchResult r (SameSheet m s p.ledger p.sheet p.free list.now (vec_items new)) (λ short. Kept s list.now (vec_items new))
+      → MatchResult r (SameSheet m s p.ledger p.sheet p.free list.now (vec_items new)) (λ short. TooShort (sheet_size s) list.now (vec_items new))
       → Replies m s p (call.View (view.Sheet list)) (answer.Sheet r new)
   write :
       (list : Bor (List ℕ)) (r : Result ℕ WriteFault) (new : Vec ℕ Global)
-      → MatchResult r (Written m.mark s p.ledger list.now (vec_items new)) (λ short. TooShort s p.ledger list.now (vec_items new))
+      → MatchResult r (Written m.mark s p.ledger list.now (vec_items new)) (λ short. TooShort (file_size s p.ledger) list.now (vec_items new))
       → Replies m s p (call.View (view.Write list)) (answer.Write r new)
 
 -- one call: it answers, it feeds the ledger, and where the ledger stays so does the sheet
