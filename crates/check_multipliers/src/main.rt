@@ -12,9 +12,8 @@ use marked_check::check_marked;
 use marked_check::line::Line;
 use std::env;
 use std::fs::File;
-use std::io::Read;
 use std::process::ExitCode;
-use tie_file::ENOUGH_BYTES;
+use tie_file::source::read_file;
 
 mod failure;
 
@@ -58,7 +57,5 @@ fn contents(rt: &HostRuntime, path: &str) -> Result<Vec<u8>, Failure> {
         Ok(file) => file,
         Err(error) => return Err(Failure::File(path.to_string(rt.alloc())?, error)),
     };
-    let mut bytes = Vec::new(rt.alloc());
-    file.take(ENOUGH_BYTES).read_to_end(&mut bytes)?;
-    Ok(bytes)
+    Ok(read_file(rt.alloc(), file)?)
 }

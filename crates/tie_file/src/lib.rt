@@ -17,13 +17,11 @@ pub mod entry;
 pub mod fault;
 pub mod file;
 pub mod parts;
+pub mod source;
 pub mod writing;
 
 // A longer file is refused.
 pub const MOST_BYTES: usize = 16_384;
-
-// As many bytes of a file as tell whether it is longer.
-pub const ENOUGH_BYTES: u64 = MOST_BYTES as u64 + 1;
 
 // The file, where it is well formed. Each check is made over the whole of it before the next.
 pub fn verify(file: &[u8]) -> Result<TieFile<'_>, FileFault>

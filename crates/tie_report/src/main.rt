@@ -8,9 +8,8 @@
 use anyhow::Context;
 use report::lines::Lines;
 use report::report;
-use std::io::Read;
 use std::process::ExitCode;
-use tie_file::ENOUGH_BYTES;
+use tie_file::source::read_file;
 
 // The message is written here: an error that `main` returned would be written once more.
 fn main(rt: HostRuntime) -> anyhow::Result<ExitCode> {
@@ -24,8 +23,7 @@ fn main(rt: HostRuntime) -> anyhow::Result<ExitCode> {
 }
 
 fn run(rt: &HostRuntime) -> anyhow::Result<()> {
-    let mut file = Vec::new(rt.alloc());
-    rt.stdin().take(ENOUGH_BYTES).read_to_end(&mut file)?;
+    let file = read_file(rt.alloc(), rt.stdin())?;
     rt.println(Lines::new(report(rt.alloc(), &file)).context("no memory for the book")?)?;
     Ok(())
 }
