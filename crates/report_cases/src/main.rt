@@ -3,7 +3,8 @@
 
 #![tactic(auto)]
 
-ghost use Rattle.std.specs.Prelude.{◌<◌};
+ghost use Rattle.std.specs.Char.{digit_value};
+ghost use Rattle.std.specs.Prelude.{◌≡◌, ◌<◌, ◌≤◌, MatchResult};
 
 use anyhow::Context;
 use report::lines::Lines;
@@ -29,18 +30,14 @@ fn print_report(rt: &HostRuntime, hex: &str) -> anyhow::Result<()> {
 fn bytes_of(rt: &HostRuntime, hex: &str) -> anyhow::Result<Vec<u8>> {
     let mut bytes = Vec::new(rt.alloc());
     for pair in hex.as_bytes().chunks_exact(2) {
-        bytes.push(16 * digit(pair[0]) + digit(pair[1]))?;
+        bytes.push(16 * digit(pair[0])? + digit(pair[1])?)?;
     }
     Ok(bytes)
 }
 
-// The value of a hex digit, and 0 for any other sign.
-fn digit(sign: u8) -> u8
-    ensures { result < 16 }
+fn digit(sign: u8) -> anyhow::Result<u8>
+    ensures { MatchResult result (λ d. (d ≡ digit_value sign) × (d < 16)) (λ _. 16 ≤ digit_value sign) }
 {
-    match sign {
-        b'0'..=b'9' => sign - b'0',
-        b'a'..=b'f' => sign - b'a' + 10,
-        _ => 0,
-    }
+    let digit = char::from(sign).to_digit(16).context("no hex digit")?;
+    Ok(digit as u8)
 }
