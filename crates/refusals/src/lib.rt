@@ -1,4 +1,4 @@
-// The sixteen ways to be stopped. Every fault of the library is one of these.
+// The sixteen ways to be refused. Every fault of the library is one of these, or want of memory.
 
 #![tactic(auto)]
 

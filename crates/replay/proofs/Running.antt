@@ -74,10 +74,6 @@ calls_more (u ∷ ts) t =
 
 -- calls are performed one by one
 module _ {S : Type 0} (meaning : S → Meaning) (b : Held S) (before : List Answer) where
-  pub performed_none : PerformedAll meaning b [] before b before
-  performed_none =
-      record { same_scale = refl; same_layout = refl; answers = []; put = sym (append-nil before); ran = refl }
-
   pub performed_more :
       (cs : List Call) (c : Call) (now new : Held S) (sofar after : List Answer) (a : Answer)
       → PerformedAll meaning b cs before now sofar

@@ -199,11 +199,8 @@ module _ (k : Mark) (s : Shape) (es : List Equation) (f g : List ℕ) (bf : Byte
     same_end : (i : ℕ) → i ≤ suc (length es) → end_before f i ≡ end_before g i
     same_end zero h = ap (λ (n : ℕ). 1 + 5 * n) same_count
     same_end (suc i) h =
-        ap₂ (λ (a b : ℕ). a + b)
-        (is.formed.entries.gapless i (omega (arith, h, count_stated k s es f is))
-        ∙ same_end i (omega (arith, h))
-        ∙ sym (are.formed.entries.gapless i (omega (arith, h, count_stated k s es g are))))
-        (same_extent i (omega (arith, h)))
+        let within : i ≤ length es = omega (arith, h) in
+        entry_ends k s es f is i within ∙ sym (entry_ends k s es g are i within)
 
     same_start : (i : ℕ) → i ≤ length es → start_at f i ≡ start_at g i
     same_start i h =
