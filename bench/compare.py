@@ -165,15 +165,17 @@ def main():
             assert meets(solution, factors, rights, size), label
             assert free or solution == point, label
             rows.append((f"whole system, {label}", seconds, whole))
-        unload, _ = ours.timed("unload", data, turns)
-        unload_plain, _ = plain.timed("unload", data, turns)
+        unload, answer = ours.timed("unload", data, turns)
+        unload_plain, answer_plain = plain.timed("unload", data, turns)
+        assert answer == answer_plain == PLACES * length, (answer, answer_plain)
         whole_plain = rows[1][1]
         rows.append(("a post, ours", whole / TIES, None))
         rows.append(("a post, plain Rust", whole_plain / TIES, whole / TIES))
         rows.append(("a withdrawal, ours", (unload - whole) / TIES, None))
         rows.append(("a withdrawal, plain Rust", (unload_plain - whole_plain) / TIES, (unload - whole) / TIES))
-        refusal, _ = ours.timed("refuse", data, turns * 10)
-        refusal_plain, _ = plain.timed("refuse", data, turns * 10)
+        refusal, answer = ours.timed("refuse", data, turns * 10)
+        refusal_plain, answer_plain = plain.timed("refuse", data, turns * 10)
+        assert answer == answer_plain < PLACES * length, (answer, answer_plain)
         rows.append(("a refusal with multipliers, ours", refusal, None))
         rows.append(("a refusal with multipliers, plain Rust", refusal_plain, refusal))
         rows.append(("a sheet, ours", ours.timed("draw", data, turns * 10)[0], None))

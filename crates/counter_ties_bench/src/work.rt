@@ -1,5 +1,6 @@
 // What is timed, over the scale of the file's mark.
 
+use book::fault::PostFault;
 use book::{Book, Open};
 use scale::Scale;
 use scales::{Binary, Prime};
@@ -57,7 +58,8 @@ fn loaded<S: Scale + Drop>(heap: Global, scale: S, file: &TieFile) -> Option<Boo
     Some(book)
 }
 
-fn free_digits<S: Scale>(book: &Book<S, Open>) -> u32 {
+// Draws the sheet, which is part of the work that is timed, and answers the free digits.
+fn drawn<S: Scale>(book: &Book<S, Open>) -> u32 {
     // a sheet has 32 × 33 numbers at most
     let mut sheet = [0; 1056];
     book.sheet(&mut sheet).map_or(NONE, u32::from)
@@ -67,7 +69,7 @@ fn whole<S: Scale + Copy + Drop>(heap: Global, scale: S, file: &TieFile, times: 
     let mut free = NONE;
     for _ in 0..times {
         free = match loaded(heap, scale, file) {
-            Some(book) => free_digits(&book),
+            Some(book) => drawn(&book),
             None => NONE,
         };
     }
@@ -83,7 +85,7 @@ fn unload<S: Scale + Copy + Drop>(heap: Global, scale: S, file: &TieFile, times:
         for _ in 0..file.ties() {
             let _ = book.withdraw();
         }
-        free = free_digits(&book);
+        free = drawn(&book);
     }
     free
 }
@@ -116,7 +118,12 @@ fn refuse<S: Scale + Copy + Drop>(heap: Global, scale: S, file: &TieFile, times:
     let _ = book.withdraw();
     let mut multipliers = [0; 64];
     for _ in 0..times {
-        let _ = book.post(&other, &mut multipliers);
+        if !matches!(
+            book.post(&other, &mut multipliers),
+            Err(PostFault::Contradiction)
+        ) {
+            return NONE;
+        }
     }
-    free_digits(&book)
+    drawn(&book)
 }
