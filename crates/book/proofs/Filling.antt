@@ -170,3 +170,17 @@ module _ (m : Meaning) (l : Laws m) where
       let is : r ≡ m.sum a (m.product b c) =
       e ∙ ap₂ m.sum (reading_of m l a ac) (ap₂ m.product (reading_of m l b bc) (reading_of m l c cc')) in
       (subst (Code m) (sym is) (l.sum_code a (m.product b c) ac (l.product_code b c bc cc')), is)
+
+  -- a sum with a product, and its second summand by another way
+  pub sum_product_is :
+      (a b c p r : ℕ)
+      → Code m a
+      → Code m b
+      → Code m c
+      → p ≡ m.product (reading m b) (reading m c)
+      → r ≡ m.sum (reading m a) (reading m p)
+      → Code m r × (r ≡ m.sum a (m.product b c))
+  sum_product_is a b c p r ac bc cc' pe re =
+      let q = product_is b c p bc cc' pe in
+      let s = sum_is a p r ac q.0 re in
+      (s.0, s.1 ∙ ap (m.sum a) q.1)

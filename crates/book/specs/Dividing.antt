@@ -4,9 +4,10 @@ use Rattle.scale.specs.Meaning.{Meaning, Quotient, power}
 use Rattle.book.specs.declared.dividing.Choice.{Choice}
 use Rattle.book.specs.declared.dividing.Divisor.{Divisor}
 
--- the level of a code, and a cofactor that makes it the step to that power
+-- the level of a code, the step to that power, and a cofactor that makes the code that power
 pub record DividesBy (m : Meaning) (b : ℕ) (d : Divisor) : Type 0 where
   pub level : d.level ≡ m.level b
+  pub at_level : d.power ≡ power m d.level
   pub cofactor : Quotient m (power m d.level) b d.cofactor
 
 -- none of the first n has a lower level than the p-th

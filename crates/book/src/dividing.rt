@@ -1,9 +1,9 @@
 // The choice of a pivot among products: one that divides all of them, with the quotients.
 
-ghost use Rattle.std.specs.Prelude.{ℕ, ◌≤◌, length, slice_index};
+ghost use Rattle.std.specs.Prelude.{◌≡◌, ℕ, ◌≤◌, length, slice_index};
 ghost use Rattle.book.specs.Dividing.{Chosen, Divides, DividesBy};
 ghost use Rattle.book.specs.Rows.{Codes};
-ghost use Rattle.scale.specs.Meaning.{Code, Divided};
+ghost use Rattle.scale.specs.Meaning.{Code, Divided, power};
 
 use arrayvec::ArrayVec;
 use scale::Scale;
@@ -20,10 +20,12 @@ pub fn quotient_of<S: Scale>(scale: &S, a: u32, b: u32) -> Option<u32>
     }
 }
 
-// What divides by a code again and again: its level, and the cofactor that makes it the step to that power.
+// What divides by a code again and again: its level, the step to that power, and the cofactor that makes the code that
+// power.
 #[derive(Clone, Copy)]
 pub struct Divisor {
     pub level: u8,
+    pub power: u32,
     pub cofactor: u32,
 }
 
@@ -35,18 +37,24 @@ impl Divisor {
         ensures { DividesBy (S.Scale.meaning scale.now) code result }
     {
         let level = scale.level(code);
+        let power = scale.step_power(level);
         Divisor {
             level,
-            cofactor: quotient_of(scale, scale.step_power(level), code).unwrap(),
+            power,
+            cofactor: quotient_of(scale, power, code).unwrap(),
         }
     }
 
     // Some quotient of `a` by the code that this was made of.
     pub fn quotient<S: Scale>(self, scale: &S, a: u32) -> Option<u32>
-        requires { Code (S.Scale.meaning scale.now) a }
+        requires code { Code (S.Scale.meaning scale.now) a }
+        requires power { self.power ≡ power (S.Scale.meaning scale.now) self.level }
         ensures { let m = S.Scale.meaning scale.now in (b : ℕ) → Code m b → DividesBy m b self → Divided m a b result }
     {
-        let lowered = scale.lowered(a, self.level)?;
+        if a == 0 {
+            return Some(0);
+        }
+        let lowered = scale.lowered_by(a, self.level, self.power)?;
         Some(scale.product(lowered, self.cofactor))
     }
 }

@@ -12,13 +12,18 @@ use arrayvec::ArrayVec;
 use scale::Scale;
 use ties::sound::SoundTie;
 
-// The sum of factor times code, over a tie's terms, at a row. Where many ties stand, most rows are 0.
+// The sum of factor times code, over a tie's terms, at a row. Where many ties stand, most rows are 0: a tie of many terms
+// looks for that first.
 pub fn total_at<S: Scale>(tie: &SoundTie<S>, row: &[u32]) -> u32
     requires codes { Codes (S.Scale.meaning tie.now.scale.now) row.now }
     requires whole { places (shape tie.now.layout.now) ≤ length row.now }
     ensures { let m = S.Scale.meaning tie.now.scale.now in Code m result × (result ≡ total m tie.now.tie.terms.now (row_of (shape tie.now.layout.now) row.now)) }
 {
-    if is_zero(row) {
+    if let [term] = tie.tie.terms {
+        let code = row[tie.layout.place(term.head, term.counter)];
+        return tie.scale.product(term.factor, code);
+    }
+    if row.len() / 2 <= tie.tie.terms.len() && is_zero(row) {
         return 0;
     }
     let mut total = 0;
@@ -29,10 +34,15 @@ pub fn total_at<S: Scale>(tie: &SoundTie<S>, row: &[u32]) -> u32
     tie.scale.gathered(total)
 }
 
+// The greatest number tells, and a compiler finds it four numbers at a time.
 fn is_zero(row: &[u32]) -> bool
     ensures { Decides result ((j : ℕ) → j < length row.now → slice_index row.now j ≡ 0) }
 {
-    row.iter().all(|code| *code == 0)
+    let mut greatest = 0;
+    for code in row {
+        greatest = greatest.max(*code);
+    }
+    greatest == 0
 }
 
 // The same at each generator.

@@ -15,6 +15,7 @@ use crate::totals::Totals;
 use scale::Scale;
 use tie_file::file::TieFile;
 use ties::layout::Layout;
+use ties::tie::Term;
 
 // The layout of the file, for this scale.
 pub fn layout_in<S: Scale>(scale: &S, file: &TieFile) -> Result<Layout, CheckFault>
@@ -41,8 +42,10 @@ pub fn add_nth<S: Scale>(
     requires codes { AllCodes (S.Scale.meaning scale.now) totals.old }
     ensures { let m = S.Scale.meaning scale.now in let s = shape layout.now in let e = nth_equation (equations file.now) i in MatchResult result (λ _. Sound m s e × AllCodes m totals.new × Added m s e multiplier totals.old totals.new) (λ g. (t : FaultOfTie) × (g ≡ CheckFault.Tie i t) × Faulty m s e t) }
 {
-    let owned = file.tie(i).unwrap();
-    match owned.tie().check(scale, layout) {
+    let mut room = [Term::default(); 32];
+    let read = file.read_tie(i, &mut room).unwrap();
+    let tie = read.tie(&room).unwrap();
+    match tie.check(scale, layout) {
         Ok(tie) => {
             totals.add(&tie, multiplier);
             Ok(())

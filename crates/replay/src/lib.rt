@@ -4,7 +4,7 @@
 
 ghost use Rattle.book.specs.Opening.{OpenStopped};
 ghost use Rattle.replay.specs.Runs.{Lawful, calls_of};
-ghost use Rattle.std.specs.Prelude.{MatchResult};
+ghost use Rattle.std.specs.Prelude.{◌≡◌, ◌-◌, ◌^◌, MatchResult, length, min};
 ghost use Rattle.ties.specs.Layouts.{Shape};
 
 use crate::answer::Answer;
@@ -31,7 +31,7 @@ pub fn replay<S: Scale + Drop>(
     ensures { let m = S.Scale.meaning scale in let s : Shape = record { heads = heads; widths = widths.now } in MatchResult result (λ answers. Lawful m s (calls_of turns.now) answers.items) (OpenStopped m s) }
 {
     let mut book = Book::new(heap, scale, heads, widths)?;
-    let mut answers = Vec::new(heap);
+    let mut answers = Vec::with_capacity(heap, count_calls(turns))?;
     for turn in turns {
         perform_all(heap, &mut book, turn.while_open, &mut answers)?;
         let closed = book.close();
@@ -39,4 +39,19 @@ pub fn replay<S: Scale + Drop>(
         book = closed.reopen();
     }
     Ok(answers)
+}
+
+// The number of calls in the turns, or the largest number where there are more.
+fn count_calls(turns: &[Turn]) -> usize
+    ensures { result ≡ min (length (calls_of turns.now)) (2 ^ 64 - 1) }
+{
+    let mut count: usize = 0;
+    for turn in turns {
+        let calls = turn
+            .while_open
+            .len()
+            .saturating_add(turn.while_closed.len());
+        count = count.saturating_add(calls);
+    }
+    count
 }

@@ -2,7 +2,7 @@
 
 ghost use Rattle.replay.specs.Performed.{Looked, Performed, PerformedAll};
 ghost use Rattle.replay.specs.Runs.{views};
-ghost use Rattle.std.specs.Prelude.{IfOk};
+ghost use Rattle.std.specs.Prelude.{◌≡◌, IfOk, MatchResult};
 
 use crate::answer::Answer;
 use crate::call::{Call, View};
@@ -40,13 +40,14 @@ pub fn look_all<S: Scale, P>(
     Ok(())
 }
 
-// Performs a call on an open book, with a copy of the list that it hands over.
+// Performs a call on an open book, with a copy of the list that it hands over. Without memory for the copy the call is not
+// made.
 fn perform<S: Scale>(
     heap: Global,
     book: &mut Book<S, Open>,
     call: &Call,
 ) -> Result<Answer, AllocError>
-    ensures { IfOk result (λ a. Performed S.Scale.meaning book.old call.now a book.new) }
+    ensures { MatchResult result (λ a. Performed S.Scale.meaning book.old call.now a book.new) (λ _. book.new ≡ book.old) }
 {
     match call {
         Call::Post(tie, numbers) => {

@@ -26,12 +26,19 @@ pub record Openable (f : List ℕ) : Type 0 where
   pub sized : Sized (file_shape f)
   pub within : Within (named (file_mark f)) (file_shape f)
 
+-- a scale that a file's mark names
+abbrev pub NamedBy : List ℕ → Meaning → Type 0
+NamedBy f m = Numbers (file_mark f) × (m ≡ named (file_mark f))
+
 -- a book for the ties of a file: it is over the file's mark and layout, and no tie stands
-pub record OpenedFor (f : List ℕ) (b : Held AnyScale) : Type 0 where
+pub record OpenedOver {S : Type 0} (means : S → Meaning) (f : List ℕ) (b : Held S) : Type 0 where
   pub openable : Openable f
-  pub meaning : any_scale b.scale ≡ named (file_mark f)
+  pub meaning : means b.scale ≡ named (file_mark f)
   pub shape : shape b.layout ≡ file_shape f
   pub nothing : ledger b.table ≡ []
+
+abbrev pub OpenedFor : List ℕ → Held AnyScale → Type 0
+OpenedFor = OpenedOver any_scale
 
 -- where posting stopped: nowhere, and then all ties stand, or at the first tie that does not, which is refused by those
 -- before it with its fault, the list of multipliers having 64 numbers

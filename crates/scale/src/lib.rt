@@ -47,13 +47,20 @@ pub trait Scale {
     fn gather(&self, total: u64, b: u32, c: u32) -> u64
         ensures { let m = meaning self.now in reading m result ≡ m.sum (reading m total) (m.product (reading m b) (reading m c)) }
     {
-        u64::from(self.add_product(self.gathered(total), b, c))
+        let total = match u32::try_from(total) {
+            Ok(total) => total,
+            Err(_) => self.gathered(total),
+        };
+        u64::from(self.add_product(total, b, c))
     }
 
     // The code that a running total is read as.
     fn gathered(&self, total: u64) -> u32
         ensures { let m = meaning self.now in result ≡ reading m total }
     {
+        if let Ok(total) = u32::try_from(total) {
+            return self.sum(total, 0);
+        }
         let Mark { base, length, .. } = self.mark();
         (total % u64::from(base).pow(u32::from(length))) as u32
     }
@@ -87,6 +94,14 @@ pub trait Scale {
         ensures { let m = meaning self.now in Divided m (reading m a) (power m k) result }
     {
         self.quotient(a, self.step_power(k))
+    }
+
+    // The same where that power is at hand, so that it need not be made for each of many quotients.
+    fn lowered_by(&self, a: u32, k: u8, by: u32) -> Option<u32>
+        requires { by ≡ power (meaning self.now) k }
+        ensures { let m = meaning self.now in Divided m (reading m a) (power m k) result }
+    {
+        self.quotient(a, by)
     }
 
     ghost lawful: { (s : Self) → Laws (meaning s) };

@@ -1,4 +1,5 @@
 pub mod Adding
+pub mod Discs
 pub mod Lowering
 pub mod OddBases
 pub mod Quotients

@@ -1,10 +1,10 @@
 -- Division by a power of the base.
-use Rattle.std.proofs.Common.{◌≡◌, ℕ, zero, suc, ◌*◌, ◌%◌, ◌^◌, ◌<◌, ◌≤◌, Option, None, Some, sym, ap, ◌∙◌, subst, mod-eq_of_lt, mul_comm, pow-suc, lt_of_not-le, lt_of_le_of_lt, le-mul_of_pos_right, arith}
+use Rattle.std.proofs.Common.{◌≡◌, ℕ, zero, suc, ◌*◌, ◌%◌, ◌^◌, ◌<◌, ◌≤◌, Option, None, Some, sym, ap, ◌∙◌, subst, mod-eq_of_lt, mul_comm, pow-suc, lt_of_not-le, lt_of_le_of_lt, le_refl, le-mul_of_pos_right, mul-le-mul, arith}
 use Rattle.std.proofs.lemmas.Nat.{mul-mod, mul-mod_first}
-use Rattle.std.proofs.Math.Nat.{pow-zero, mul-mod_right}
+use Rattle.std.proofs.Math.Nat.{pow-zero, pow-le-pow_right, mul-mod_right}
 use Rattle.scale.specs.declared.Mark.{Mark}
 use Rattle.scale.specs.Meaning.{Laws, Divided, power}
-use Rattle.scale.proofs.Codes.{power_pos}
+use Rattle.scale.proofs.Codes.{power_code, power_pos}
 use Rattle.scale.proofs.Levels.{power_level}
 use Rattle.scales.specs.Counting.{counting}
 use Rattle.scales.specs.Inverses.{one_mod}
@@ -28,6 +28,22 @@ module _ (m : Mark) (l : Laws (counting m)) where
       ap (λ (y : ℕ). (q % n * y) % n) (power_is k)
       ∙ sym (mul-mod q (q ^ k) n)
       ∙ ap (λ (y : ℕ). y % n) (mul_comm q (q ^ k) ∙ sym (pow-suc q k))
+
+  -- below the length it is the base's own
+  pub low_small : (k : ℕ) → k < e → q ^ k < n
+  low_small k short =
+      let grows : q ^ suc k ≤ n = pow-le-pow_right (omega (arith, l.base_least)) short in
+      let more : q ^ k * 2 ≤ q ^ suc k = subst (λ y. q ^ k * 2 ≤ y) (sym (pow-suc q k)) (mul-le-mul (le_refl (q ^ k)) l.base_least) in
+      omega (arith, power_pos q k l.base_least, more, grows)
+
+  pub low_power : (k : ℕ) → k < e → power (counting m) k ≡ q ^ k
+  low_power k short = power_is k ∙ mod-eq_of_lt (low_small k short)
+
+  -- from the length on it is 0
+  pub high_power : (k : ℕ) → e ≤ k → power (counting m) k ≡ 0
+  high_power k long =
+      let level = power_level (counting m) l k in
+      l.zero_only _ (power_code (counting m) l k) (omega (arith, level))
 
   -- below the length it is known by the last digits
   pub low_divided :

@@ -94,7 +94,20 @@ pub ungray_one : (c : ℕ) → ungray 1 c ≡ c
 unfolding ungray
 ungray_one c = xor_zero_r c
 
--- read as one of 32 digits, a code of fewer has the same position
+-- 32 digits in five steps
+pub ungray_32 :
+    (c : ℕ)
+    → let p₂ : ℕ = bit_xor c (c / 2) in
+    let p₄ : ℕ = bit_xor p₂ (p₂ / 4) in
+    let p₈ : ℕ = bit_xor p₄ (p₄ / 16) in
+    let p₁₆ : ℕ = bit_xor p₈ (p₈ / 256) in
+    bit_xor p₁₆ (p₁₆ / 65536) ≡ ungray 32 c
+ungray_32 c = step 16 (step 8 (step 4 (step 2 (step 1 (sym (ungray_one c))))))
+  where
+    step : (k : ℕ) {p : ℕ} → p ≡ ungray k c → bit_xor p (p / 2 ^ k) ≡ ungray (k + k) c
+    step k e = ap (λ (x : ℕ). bit_xor x (x / 2 ^ k)) e ∙ ungray_double k c
+
+-- which is the position of any code of fewer
 pub ungray_of_32 : (k c : ℕ) → k ≤ 32 → c < 2 ^ k → ungray 32 c ≡ ungray k c
 ungray_of_32 k c h l =
     let j = le_dest h in

@@ -32,6 +32,10 @@ power_mod q v e a h = mod-mod_of_dvd (q ^ v) a (power_divides q v e h)
 pub lower_power : (q v w a : ℕ) → v ≤ w → a % q ^ w ≡ 0 → a % q ^ v ≡ 0
 lower_power q v w a h z = sym (power_mod q v w a h) ∙ ap (λ (x : ℕ). x % q ^ v) z ∙ zero-mod (q ^ v)
 
+-- agreeing by a higher power, two numbers agree by a lower one
+pub lower_same : (q v w a b : ℕ) → v ≤ w → a % q ^ w ≡ b % q ^ w → a % q ^ v ≡ b % q ^ v
+lower_same q v w a b h s = sym (power_mod q v w a h) ∙ ap (λ (x : ℕ). x % q ^ v) s ∙ power_mod q v w b h
+
 -- a power of 2 or more is above its exponent
 pub above_exponent : (e : ℕ) → e < 2 ^ e
 above_exponent zero = omega arith

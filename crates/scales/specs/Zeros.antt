@@ -1,8 +1,8 @@
 -- The zeros at a number's end, by divisibility.
 use Rattle.std.specs.Prelude.{◌≡◌, ℕ, zero, suc, ◌+◌, ◌*◌, ◌/◌, ◌%◌, ◌^◌, ◌<◌, ◌≤◌, Bool, true, false, cond, ◌==◌, ◌≢◌, refl}
 use Rattle.std.specs.Int.{◌∣◌}
-use Rattle.std.proofs.Common.{sym, ap, ap₂, ◌∙◌, subst, zero-mul, pow-suc, le_antisymm, le_refl, eq-zero-or-pos, mul-pos, mul_assoc, le_of_suc-le-suc, lt_of_not-le, pos_of_ne-zero, le_trans, le-mul_of_pos_right, inl, inr, arith, pow-add, eqb-true, eq-eqb}
-use Rattle.std.proofs.Math.Nat.{mod-one, one-le-pow, pow-zero, mul-mod_right, mod-eq-zero_of_dvd, dvd_of_mod-eq-zero, dvd_of_mul-dvd-mul_left, not-suc-le_self, mod-le, pow-le-pow_right}
+use Rattle.std.proofs.Common.{sym, ap, ap₂, ◌∙◌, subst, zero-mul, pow-suc, le_antisymm, le_refl, eq-zero-or-pos, mul-pos, mul_assoc, le_of_suc-le-suc, lt_of_not-le, pos_of_ne-zero, le_trans, le-mul_of_pos_right, mul-le-mul_left, lt_of_le_of_lt, inl, inr, arith, pow-add, eqb-true, eq-eqb}
+use Rattle.std.proofs.Math.Nat.{mod-one, one-le-pow, pow-zero, mul-mod_right, mod-eq-zero_of_dvd, dvd_of_mod-eq-zero, dvd_of_mul-dvd-mul_left, not-suc-le_self, mod-le, pow-le-pow_right, le_of_dvd}
 use Rattle.std.proofs.Math.Arith.{mod-mul}
 use Rattle.scales.specs.Counting.{zeros}
 use Rattle.scales.specs.Parting.{Parted}
@@ -101,3 +101,7 @@ shed_some q d k p hd ed parts z = (
   where
     twice : (p.unit / d) % d ≡ 0 → p.unit % (d * d) ≡ 0
     twice w = mod-mul p.unit hd hd ∙ ap₂ (λ (x y : ℕ). x * d + y) w z ∙ ap (λ (x : ℕ). x + 0) (zero-mul d)
+
+-- what goes out is no more than the number
+pub shed_small : (p d u : ℕ) → u % d ≡ 0 → 0 < u → p * u < 2 ^ 32 → p * d < 2 ^ 32
+shed_small p d u z h l = lt_of_le_of_lt (mul-le-mul_left p (le_of_dvd h (dvd_of_mod-eq-zero d z))) l

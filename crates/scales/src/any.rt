@@ -129,12 +129,24 @@ impl Scale for AnyScale {
         }
     }
 
+    fn step_power(&self, k: u8) -> u32 {
+        match self {
+            AnyScale::Binary(s) => s.step_power(k),
+            AnyScale::Prime(s) => s.step_power(k),
+            AnyScale::Disc(s) => s.step_power(k),
+        }
+    }
+
     fn lowered(&self, a: u32, k: u8) -> Option<u32> {
         match self {
             AnyScale::Binary(s) => s.lowered(a, k),
             AnyScale::Prime(s) => s.lowered(a, k),
             AnyScale::Disc(s) => s.lowered(a, k),
         }
+    }
+
+    fn lowered_by(&self, a: u32, k: u8, _by: u32) -> Option<u32> {
+        self.lowered(a, k)
     }
 
     fn quotient(&self, a: u32, b: u32) -> Option<u32> {

@@ -60,6 +60,11 @@ impl Digits for Bits {
         (x & u64::from(self.mask)) as u32
     }
 
+    // The size divides 2^64: what is lost beyond 64 bits does not count.
+    fn gather(&self, total: u64, b: u32, c: u32) -> u64 {
+        total.wrapping_add(u64::from(b) * u64::from(c))
+    }
+
     fn split(&self, a: u32) -> Parts {
         let level = a.trailing_zeros();
         Parts {

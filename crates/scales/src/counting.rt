@@ -74,13 +74,8 @@ impl<D: Digits> Scale for Counting<D> {
             .remainder(u64::from(a) + u64::from(b) * u64::from(c))
     }
 
-    // The remainder waits until the total is too large.
     fn gather(&self, total: u64, b: u32, c: u32) -> u64 {
-        let product = u64::from(b) * u64::from(c);
-        match total.checked_add(product) {
-            Some(sum) => sum,
-            None => u64::from(self.digits.remainder(total)) + product,
-        }
+        self.digits.gather(total, b, c)
     }
 
     fn gathered(&self, total: u64) -> u32 {
@@ -98,6 +93,16 @@ impl<D: Digits> Scale for Counting<D> {
         }
     }
 
+    // From the length on the power is 0.
+    fn step_power(&self, k: u8) -> u32 {
+        let Mark { base, length, .. } = self.digits.mark();
+        if k < length {
+            u32::from(base).pow(u32::from(k))
+        } else {
+            0
+        }
+    }
+
     // From the length on the power is 0, which divides only 0.
     fn lowered(&self, a: u32, k: u8) -> Option<u32> {
         match self.reading(a) {
@@ -105,6 +110,10 @@ impl<D: Digits> Scale for Counting<D> {
             a if k < self.digits.mark().length => self.digits.lowered(a, k),
             _ => None,
         }
+    }
+
+    fn lowered_by(&self, a: u32, k: u8, _by: u32) -> Option<u32> {
+        self.lowered(a, k)
     }
 
     fn quotient(&self, a: u32, b: u32) -> Option<u32> {

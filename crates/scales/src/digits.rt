@@ -1,6 +1,6 @@
 // Whole numbers by their digits in one base.
 
-ghost use Rattle.std.specs.Prelude.{◌≡◌, ◌*◌, ◌%◌, ◌^◌, ◌<◌, length, min};
+ghost use Rattle.std.specs.Prelude.{◌≡◌, ◌+◌, ◌*◌, ◌%◌, ◌^◌, ◌<◌, length, min};
 ghost use Rattle.scale.specs.declared.Mark.{Mark as Marked};
 ghost use Rattle.scale.specs.Meaning.{Laws, MultipleAdded, base, size};
 ghost use Rattle.scales.specs.Counting.{counting};
@@ -28,6 +28,17 @@ pub trait Digits {
 
     fn remainder(&self, x: u64) -> u32
         ensures { result ≡ x % size (counting (counts self.now)) };
+
+    // A running total with `b` times `c`, by its remainder, which waits until the total is too large.
+    fn gather(&self, total: u64, b: u32, c: u32) -> u64
+        ensures { let n = size (counting (counts self.now)) in result % n ≡ (total + b * c) % n }
+    {
+        let product = u64::from(b) * u64::from(c);
+        match total.checked_add(product) {
+            Some(sum) => sum,
+            None => u64::from(self.remainder(total)) + product,
+        }
+    }
 
     // Adds `by` times a list to another, as far as both go.
     fn add_multiple(&self, to: &mut [u32], by: u32, from: &[u32])

@@ -90,8 +90,25 @@ impl Scale for Disc {
         )
     }
 
+    // A total is read as its last digits, which are a code's.
+    fn gathered(&self, total: u64) -> u32 {
+        self.positions.gathered(total)
+    }
+
     fn level(&self, a: u32) -> u8 {
         self.positions.level(self.position(a))
+    }
+
+    fn step_power(&self, k: u8) -> u32 {
+        gray_code(self.positions.step_power(k))
+    }
+
+    fn lowered(&self, a: u32, k: u8) -> Option<u32> {
+        self.positions.lowered(self.position(a), k).map(gray_code)
+    }
+
+    fn lowered_by(&self, a: u32, k: u8, _by: u32) -> Option<u32> {
+        self.lowered(a, k)
     }
 
     fn quotient(&self, a: u32, b: u32) -> Option<u32> {

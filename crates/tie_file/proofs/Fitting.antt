@@ -1,10 +1,14 @@
 -- The steps of the checks on a file.
-use Rattle.std.proofs.Common.{◌≡◌, ℕ, zero, suc, ◌<◌, ◌≤◌, Bool, true, false, eqb, List, length, MatchBool, sym, refl, ap, ◌∙◌, zero-add, subst, arith, eqb-true}
+use Rattle.std.proofs.Common.{◌≡◌, ℕ, zero, suc, ◌+◌, ◌<◌, ◌≤◌, Bool, true, false, eqb, List, length, get_or, MatchBool, sym, refl, ap, ◌∙◌, zero-add, subst, arith, Bor, eqb-true}
 use borrow.Author.Tests.{eqb-false}
 use Rattle.std.specs.List.{AllWithin, HoldsAt, range_with_len}
 use Rattle.std.proofs.lemmas.List.FromFn.{get_or-range_with_len, length-range_with_len}
-use Rattle.tie_file.specs.Table.{HasEntries, HasBodies, entries, kind_at, start_at, end_before}
-use Rattle.tie_file.specs.Steps.{BodyFits}
+use Rattle.tie_file.specs.declared.entry.Entry.TheVariants.{Layout}
+use Rattle.tie_file.specs.Table.{HasEntries, HasBodies, byte, entries, kind_at, start_at, extent_at, end_before}
+use Rattle.tie_file.specs.Steps.{BodyFits, LayoutLength}
+use Rattle.tie_file.specs.Reading.{HasEntry, IsEntry}
+use Rattle.tie_file.proofs.Bytes.{part_byte}
+use Rattle.tie_file.proofs.WellFormed.{body_length}
 
 -- the kind is that of the entry's place, and the body starts where the part before ends
 abbrev pub Follows : List ℕ → ℕ → Type 0
@@ -45,8 +49,34 @@ entries_all f n end all some e follow = retold (eqb end (length f)) (end ≡ len
     from : HasEntries f → end ≡ length f
     from h = last ∙ h.ends
 
+-- whether a layout's body fits
+pub layout_fits_lem :
+    (f : List ℕ) → HasEntries f → (i : ℕ) → i < entries f → (b : Bor (List ℕ)) (r : Bool)
+    → HasEntry f i → IsEntry f i (Layout b)
+    → MatchBool r (LayoutLength b.now) (LayoutLength b.now → ⊥) → MatchBool r (BodyFits f i) (BodyFits f i → ⊥)
+layout_fits_lem f e i h b r there is w = retold r (LayoutLength b.now) (BodyFits f i) to from w
+  where
+    size : length b.now ≡ extent_at f i
+    size = ap length is.1 ∙ body_length f i there
+
+    fifth : 5 ≤ extent_at f i → get_or b.now 4 0 ≡ byte f (start_at f i + 4)
+    fifth l = part_byte f b.now (start_at f i) (extent_at f i) 4 (start_at f i + 4) is.1 l refl
+
+    first : 1 ≤ i → ⊥
+    first l = omega (arith, e.ties i l h, is.0)
+
+    to : LayoutLength b.now → BodyFits f i
+    to l =
+        let least : 5 ≤ extent_at f i = omega (arith, size, l.0) in
+        ((λ z. (least, omega (arith, size, l.1, fifth least))), (λ o. absurd (first o)))
+
+    from : BodyFits f i → LayoutLength b.now
+    from l =
+        let fits = l.0 (none i first) in
+        (omega (arith, size, fits.0), omega (arith, size, fits.1, fifth fits.0))
+
 -- every body fits
-bodies_all :
+pub bodies_all :
     (f : List ℕ) → 1 ≤ entries f → ((k : ℕ) → k < entries f → BodyFits f k) → HasBodies f
 bodies_all f some fit =
     record {
@@ -55,7 +85,7 @@ bodies_all f some fit =
       ties = λ i l h. (fit i h).1 l;
     }
 
-body_fits_lem : (f : List ℕ) → HasBodies f → (i : ℕ) → i < entries f → BodyFits f i
+pub body_fits_lem : (f : List ℕ) → HasBodies f → (i : ℕ) → i < entries f → BodyFits f i
 body_fits_lem f b zero h = ((λ z. (b.layout_least, b.layout)), (λ o. absurd (none_less o)))
   where
     none_less : 1 ≤ 0 → ⊥

@@ -1,14 +1,18 @@
 -- What a well-formed file has: each entry with its body, the layout's first, and ties that can be read.
-use Rattle.std.proofs.Common.{◌≡◌, ℕ, zero, suc, ◌+◌, ◌-◌, ◌<◌, ◌≤◌, ◌⊎◌, List, length, get_or, drop, refl, ap, ◌∙◌, subst, inl, inr, add-zero, add-suc, arith}
+use Rattle.std.proofs.Common.{◌≡◌, ℕ, zero, suc, ◌+◌, ◌-◌, ◌<◌, ◌≤◌, ◌⊎◌, List, length, get_or, drop, refl, ap, ◌∙◌, subst, inl, inr, add-zero, add-suc, arith, Bor}
 use Rattle.std.proofs.lemmas.List.{length-take-le, length-drop}
+use Rattle.std.proofs.lemmas.List.Edits.{length-between}
 use Rattle.std.proofs.lemmas.List.FromFn.{length-map-range_with_len, get_or-map-range_with_len}
+use Rattle.ties.specs.declared.tie.Term.{Term}
 use Rattle.ties.specs.Equations.{Equation}
 use Rattle.ties.specs.Layouts.{Shape}
+use Rattle.tie_file.specs.declared.entry.Entry.{Entry}
+use Rattle.tie_file.specs.declared.entry.Entry.TheVariants.{Layout, Tie}
 use Rattle.tie_file.specs.declared.body.LayoutBody.{LayoutBody}
-use Rattle.tie_file.specs.Table.{WellFormed, HasTable, HasEntries, HasBodies, TieLength, entries, kind_at, start_at, extent_at, body_at, end_before}
+use Rattle.tie_file.specs.Table.{WellFormed, HasTable, HasEntries, HasBodies, TieLength, byte, entries, kind_at, start_at, extent_at, body_at, end_before}
 use Rattle.tie_file.specs.Steps.{LayoutLength}
-use Rattle.tie_file.specs.Bodies.{equation_of, equations, shape_of}
-use Rattle.tie_file.specs.Reading.{HasLayout, HasTie, HasEntry, IsLayout, shape_in}
+use Rattle.tie_file.specs.Bodies.{equation_of, equations, file_shape, shape_of}
+use Rattle.tie_file.specs.Reading.{HasLayout, HasReadableTie, HasTie, HasEntry, IsEntry, IsLayout, shape_in}
 use Rattle.tie_file.proofs.Bytes.{part_byte}
 
 -- no part of a gapless file ends before one that stands earlier
@@ -39,6 +43,27 @@ pub entry_there : (f : List ℕ) → HasTable f → HasEntries f → (i : ℕ) �
 entry_there f t e i h =
     record { listed = omega (arith, t.whole); known = known f e i h; within = body_within f e i h }
 
+-- the first entry is no tie, and no other is a layout
+pub first_no_tie : (f : List ℕ) → HasEntries f → (b : Bor (List ℕ)) → IsEntry f 0 (Tie b) → ⊥
+first_no_tie f e b is = omega (arith, e.layout, is.0)
+
+pub other_no_layout :
+    (f : List ℕ) → HasEntries f → (i : ℕ) → 1 ≤ i → i < entries f → (b : Bor (List ℕ)) → IsEntry f i (Layout b) → ⊥
+other_no_layout f e i l h b is = omega (arith, e.ties i l h, is.0)
+
+-- so the first is the layout, and the others are ties
+pub first_is_layout :
+    (f : List ℕ) → HasEntries f → (x : Entry) → IsEntry f 0 x
+    → (b : Bor (List ℕ)) × (x ≡ Layout b) × (b.now ≡ body_at f 0)
+first_is_layout f e (Layout b) is = (b, refl, is.1)
+first_is_layout f e (Tie b) is = absurd (first_no_tie f e b is)
+
+pub other_is_tie :
+    (f : List ℕ) → HasEntries f → (i : ℕ) → 1 ≤ i → i < entries f → (x : Entry) → IsEntry f i x
+    → (b : Bor (List ℕ)) × (x ≡ Tie b) × (b.now ≡ body_at f i)
+other_is_tie f e i l h (Tie b) is = (b, refl, is.1)
+other_is_tie f e i l h (Layout b) is = absurd (other_no_layout f e i l h b is)
+
 -- a body is as long as its entry says
 pub body_length : (f : List ℕ) (i : ℕ) → HasEntry f i → length (body_at f i) ≡ extent_at f i
 body_length f i e =
@@ -58,6 +83,14 @@ pub layout_shape : (b : List ℕ) (l : LayoutBody) → IsLayout b l → shape_in
 layout_shape b l is =
     let with : ℕ → List ℕ → Shape = λ h ws. record { heads = h; widths = ws } in
     ap (λ (h : ℕ). with h l.widths.now) is.heads ∙ ap (with (shape_of b).heads) is.widths
+
+-- the layout states as many widths as counters
+pub layout_widths :
+    (f : List ℕ) → HasTable f → HasEntries f → HasBodies f → length (file_shape f).widths ≡ byte (body_at f 0) 4
+layout_widths f t e b =
+    let whole = layout_whole f t e b in
+    let n = length-between (body_at f 0) 5 (length (body_at f 0)) (omega arith) in
+    omega (arith, whole.1)
 
 -- a tie's body is as long as its terms make it
 pub tie_whole :
@@ -89,3 +122,12 @@ tie_there f w i h = (
   w.entries.ties (i + 1) (omega arith) h,
   tie_whole f w.table w.entries w.bodies (i + 1) (omega arith) h,
 )
+
+-- and a room of 32 takes the terms of each tie
+pub tie_readable :
+    (f : List ℕ) → WellFormed f → (i : ℕ) → i + 1 < entries f → (room : List Term) → 32 ≤ length room
+    → HasReadableTie f i room
+tie_readable f w i h room r =
+    let there = tie_there f w i h in
+    let fits = there.2 in
+    (there.0, there.1, (fits.0, fits.1, fits.2, omega (arith, fits.1)))

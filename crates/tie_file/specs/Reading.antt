@@ -1,7 +1,9 @@
 -- What the calls that read a file promise.
-use Rattle.std.specs.Prelude.{◌≡◌, ℕ, ◌+◌, ◌*◌, ◌≤◌, ◌⊎◌, List, length, ◌≢◌}
+use Rattle.std.specs.Prelude.{◌≡◌, ℕ, ◌+◌, ◌*◌, ◌≤◌, ◌⊎◌, List, length, take, drop, ◌≢◌}
 use Rattle.refusals.specs.declared.Refusal.{Refusal}
 use Rattle.refusals.specs.declared.Refusal.TheVariants as refusal
+use Rattle.ties.specs.declared.tie.Term.{Term}
+use Rattle.ties.specs.Equations.{Equation}
 use Rattle.ties.specs.Layouts.{Shape}
 use Rattle.tie_file.specs.declared.fault.FileFault.{FileFault}
 use Rattle.tie_file.specs.declared.fault.FileFault.TheVariants.{Contents, Entry as BadEntry, Body}
@@ -10,8 +12,9 @@ use Rattle.tie_file.specs.declared.entry.Kind.TheVariants as kind
 use Rattle.tie_file.specs.declared.entry.Entry.{Entry}
 use Rattle.tie_file.specs.declared.entry.Entry.TheVariants.{Layout, Tie}
 use Rattle.tie_file.specs.declared.body.LayoutBody.{LayoutBody}
+use Rattle.tie_file.specs.declared.body.TieBody.{TieBody}
 use Rattle.tie_file.specs.Table.{HasTable, HasEntries, HasBodies, TieLength, kind_at, start_at, extent_at, body_at}
-use Rattle.tie_file.specs.Bodies.{mark_of, shape_of}
+use Rattle.tie_file.specs.Bodies.{equation_of, mark_of, shape_of}
 
 -- the refusal that each fault is
 abbrev pub file_refusal : FileFault → Refusal
@@ -55,6 +58,22 @@ pub record IsLayout (b : List ℕ) (l : LayoutBody) : Type 0 where
 abbrev pub shape_in : LayoutBody → Shape
 shape_in l = record { heads = l.heads; widths = l.widths.now }
 
+-- the equation that a tie's body states, with its terms at the front of a room
+abbrev pub equation_read : TieBody → List Term → Equation
+equation_read t room = record { target = t.target; right = t.right; terms = take t.terms room }
+
+-- a tie's body can be read into a room: it is as long as t terms make it, 32 at most, and the room has a place for each
+abbrev pub Readable : List ℕ → List Term → Type 0
+Readable b room = (t : ℕ) × (t ≤ 32) × (length b ≡ 5 + 6 * t) × (t ≤ length room)
+
+-- the body is read: its terms are the first of the room, and the places behind them are as they were
+pub record ReadInto (b : List ℕ) (before after : List Term) (t : TieBody) : Type 0 where
+  pub most : t.terms ≤ 32
+  pub all : length b ≡ 5 + 6 * t.terms
+  pub fits : t.terms ≤ length before
+  pub equation : equation_read t after ≡ equation_of b
+  pub rest : drop t.terms after ≡ drop t.terms before
+
 -- the first entry is a layout's, and has its five bytes
 abbrev pub HasLayout : List ℕ → Type 0
 HasLayout f = HasEntry f 0 × (kind_at f 0 ≡ 1) × (5 ≤ length (body_at f 0))
@@ -62,3 +81,7 @@ HasLayout f = HasEntry f 0 × (kind_at f 0 ≡ 1) × (5 ≤ length (body_at f 0)
 -- the entry behind the layout and i ties is a tie's, and as long as its terms make it
 abbrev pub HasTie : List ℕ → ℕ → Type 0
 HasTie f i = HasEntry f (i + 1) × (kind_at f (i + 1) ≡ 2) × TieLength (length (body_at f (i + 1)))
+
+-- the same, where a room takes its terms
+abbrev pub HasReadableTie : List ℕ → ℕ → List Term → Type 0
+HasReadableTie f i room = HasEntry f (i + 1) × (kind_at f (i + 1) ≡ 2) × Readable (body_at f (i + 1)) room

@@ -2,14 +2,14 @@
 
 ghost use Rattle.std.specs.Prelude.{◌≡◌, ◌+◌, ◌*◌, ◌<◌, ◌≤◌, length, MatchOption};
 ghost use Rattle.tie_file.specs.Bodies.{equation_of, long, term_in};
-ghost use Rattle.tie_file.specs.Reading.{IsLayout};
+ghost use Rattle.tie_file.specs.Reading.{IsLayout, ReadInto, Readable, equation_read};
 ghost use Rattle.tie_file.specs.Table.{TieLength};
-ghost use Rattle.ties.specs.Equations.{equation_in};
+ghost use Rattle.ties.specs.Equations.{equation, equation_in};
 
 use arrayvec::ArrayVec;
 use scale::Mark;
 use ties::owned::OwnedTie;
-use ties::tie::Term;
+use ties::tie::{Term, Tie};
 
 // A layout's body; its widths are borrowed from it.
 #[derive(Clone, Copy, Debug)]
@@ -17,6 +17,27 @@ pub struct LayoutBody<'a> {
     pub mark: Mark,
     pub heads: u8,
     pub widths: &'a [u8],
+}
+
+// What a tie's body holds besides its terms, and how many those are.
+#[derive(Clone, Copy, PartialEq, Eq, Debug)]
+pub struct TieBody {
+    pub target: u8,
+    pub right: u32,
+    pub terms: usize,
+}
+
+impl TieBody {
+    // The tie, where its terms are at the front of `room`.
+    pub fn tie(self, room: &[Term]) -> Option<Tie<'_>>
+        ensures { let from = room.now in MatchOption result (length from < self.terms) (λ t. (self.terms ≤ length from) × (equation t ≡ equation_read self from)) }
+    {
+        Some(Tie {
+            target: self.target,
+            right: self.right,
+            terms: room.get(..self.terms)?,
+        })
+    }
 }
 
 // A layout's body taken apart, where it has its five bytes.
@@ -78,6 +99,26 @@ pub fn tie_of(body: &[u8]) -> Option<OwnedTie>
     Some(OwnedTie {
         target: body[0],
         right: long_at(body, 1),
+        terms,
+    })
+}
+
+// The same, its terms put at the front of `room`, where each has a place there. An `OwnedTie` is as large as 32 terms,
+// however few it has, and is copied where it is handed on.
+pub fn read_tie(body: &[u8], room: &mut [Term]) -> Option<TieBody>
+    ensures { let b = body.now in let before = room.old in let after = room.new in MatchOption result ((Readable b before → ⊥) × (after ≡ before)) (ReadInto b before after) }
+{
+    let terms = count_terms(body.len())?;
+    if terms > room.len() {
+        return None;
+    }
+    let (target, right) = (body[0], long_at(body, 1));
+    for (i, term) in room[..terms].iter_mut().enumerate() {
+        *term = nth_term(body, i);
+    }
+    Some(TieBody {
+        target,
+        right,
         terms,
     })
 }

@@ -2,14 +2,15 @@
 
 ghost use Rattle.std.specs.Prelude.{◌≡◌, ◌+◌, ◌<◌, ◌≤◌, MatchOption};
 ghost use Rattle.tie_file.specs.Bodies.{equations};
-ghost use Rattle.tie_file.specs.Reading.{IsLayout};
+ghost use Rattle.tie_file.specs.Reading.{IsLayout, ReadInto, equation_read};
 ghost use Rattle.tie_file.specs.Table.{WellFormed, body_at, entries};
 ghost use Rattle.ties.specs.Equations.{equation_in, nth_equation};
 
-use crate::body::LayoutBody;
-use crate::parts::{layout_in, tie_in};
+use crate::body::{LayoutBody, TieBody};
+use crate::parts::{layout_in, read_tie_in, tie_in};
 use std::marker::Model;
 use ties::owned::OwnedTie;
+use ties::tie::Term;
 
 // A well-formed file, borrowed, and how many ties it has. To a contract it is its bytes.
 #[derive(Drop)]
@@ -53,5 +54,15 @@ impl<'a> TieFile<'a> {
         } else {
             None
         }
+    }
+
+    // The same, its terms put at the front of `room`, which has a place for those of any tie.
+    pub fn read_tie(&self, i: usize, room: &mut [Term; 32]) -> Option<TieBody>
+        ensures { let f = self.now in let before = room.old in let after = room.new in MatchOption result ((entries f ≤ i + 1) × (after ≡ before)) (λ t. (i + 1 < entries f) × ReadInto (body_at f (i + 1)) before after t × (equation_read t after ≡ nth_equation (equations f) i)) }
+    {
+        if self.ties <= i {
+            return None;
+        }
+        read_tie_in(self.bytes, i, room)
     }
 }

@@ -2,13 +2,14 @@
 
 ghost use Rattle.std.specs.Prelude.{◌≡◌, ◌+◌, MatchOption};
 ghost use Rattle.tie_file.specs.Bodies.{equation_of};
-ghost use Rattle.tie_file.specs.Reading.{HasLayout, HasTie, IsLayout};
+ghost use Rattle.tie_file.specs.Reading.{HasLayout, HasReadableTie, HasTie, IsLayout, ReadInto};
 ghost use Rattle.tie_file.specs.Table.{body_at};
 ghost use Rattle.ties.specs.Equations.{equation_in};
 
-use crate::body::{LayoutBody, layout_of, tie_of};
+use crate::body::{LayoutBody, TieBody, layout_of, read_tie, tie_of};
 use crate::entry::{Entry, nth_entry};
 use ties::owned::OwnedTie;
+use ties::tie::Term;
 
 // The layout that the first entry states.
 pub fn layout_in(file: &[u8]) -> Option<LayoutBody<'_>>
@@ -28,4 +29,14 @@ pub fn tie_in(file: &[u8], i: usize) -> Option<OwnedTie>
         Entry::Tie(body) => tie_of(body),
         Entry::Layout(_) => None,
     }
+}
+
+// The same, its terms put at the front of `room`.
+pub fn read_tie_in(file: &[u8], i: usize, room: &mut [Term]) -> Option<TieBody>
+    ensures { let f = file.now in let before = room.old in let after = room.new in MatchOption result ((HasReadableTie f i before → ⊥) × (after ≡ before)) (ReadInto (body_at f (i + 1)) before after) }
+{
+    let Entry::Tie(body) = nth_entry(file, i.checked_add(1)?)? else {
+        return None;
+    };
+    read_tie(body, room)
 }

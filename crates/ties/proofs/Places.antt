@@ -31,6 +31,10 @@ place_below s h c has = digits_lt has.0 has.1
 pub places_most : (s : Shape) → Sized s → s.heads * counters_of s ≤ 32
 places_most s sized = mul-le-mul sized.1 sized.3
 
+-- there is a place
+pub places_some : (s : Shape) → Sized s → 1 ≤ places s
+places_some s sized = mul-le-mul sized.0 sized.2
+
 -- counters at one place are one
 pub place_apart :
     (s : Shape) (h c i d : ℕ) → c < counters_of s → d < counters_of s → place s h c ≡ place s i d → (h ≡ i) × (c ≡ d)

@@ -10,6 +10,7 @@ use crate::fault::{LoadFault, Stop};
 use scale::Scale;
 use tie_file::file::TieFile;
 use tie_file::verify;
+use ties::tie::Term;
 
 impl<S: Scale> Book<S, Open> {
     // Posts the ties of a file that states this book's mark and layout, as `post_all` does.
@@ -32,9 +33,11 @@ impl<S: Scale> Book<S, Open> {
         ensures book { Grown self.old (equations file.now) (accepted_of result) self.new }
         ensures list { AllListed S.Scale.meaning self.old (equations file.now) result multipliers.old multipliers.new }
     {
+        let mut room = [Term::default(); 32];
         for i in 0..file.ties() {
-            let tie = file.tie(i).unwrap();
-            self.post(&tie.tie(), multipliers)
+            let read = file.read_tie(i, &mut room).unwrap();
+            let tie = read.tie(&room).unwrap();
+            self.post(&tie, multipliers)
                 .map_err(|fault| Stop { tie: i, fault })?;
         }
         Ok(file.ties())

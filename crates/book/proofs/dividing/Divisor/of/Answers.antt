@@ -10,7 +10,7 @@ pub quotient_of-requires : goal.quotient_of-requires
 quotient_of-requires g c =
     let m = g.S.Scale.meaning c.args.scale.now in
     let l = g.met.S.Scale.lawful c.args.scale.now in
-    (subst (Code m) (sym c.step_power.ensures) (power_code m l _), c.requires)
+    (subst (Code m) (sym c.step_power-power.ensures) (power_code m l _), c.requires)
 
 pub unwrap-requires : goal.unwrap-requires
 unwrap-requires g c =
@@ -18,7 +18,7 @@ unwrap-requires g c =
     let l = g.met.S.Scale.lawful c.args.scale.now in
     let v : ℕ = c.level-level.result in
     let v_is : v ≡ m.level c.args.code = c.level-level.ensures ∙ ap m.level (reading_of m l c.args.code c.requires) in
-    let power : m.level c.step_power.result ≡ min (digits m) v = ap m.level c.step_power.ensures ∙ power_level m l v in
+    let power : m.level c.step_power-power.result ≡ min (digits m) v = ap m.level c.step_power-power.ensures ∙ power_level m l v in
     some_since _ _ _ c.quotient_of.ensures
     (λ low. omega (arith, v_is, power, low, l.level_most c.args.code c.requires))
 
@@ -28,7 +28,8 @@ returns g c =
     let l = g.met.S.Scale.lawful c.args.scale.now in
     record {
       level = c.level-level.ensures ∙ ap m.level (reading_of m l c.args.code c.requires);
+      at_level = c.step_power-power.ensures;
       cofactor =
-          subst (λ (p : ℕ). Quotient m p c.args.code c.unwrap.result) c.step_power.ensures
+          subst (λ (p : ℕ). Quotient m p c.args.code c.unwrap.result) c.step_power-power.ensures
           (MatchOption-at_some _ _ _ c.unwrap.ensures c.quotient_of.ensures).1;
     }

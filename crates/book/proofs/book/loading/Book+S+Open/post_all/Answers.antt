@@ -21,7 +21,10 @@ returns-in_err-map_err g c =
     let stop = refused c.post.result _ _ c.in_err-map_err.ensures.cases c.in_err-map_err.ensures.variant in
     let e = stop.0 in
     let named : c.in_err-map_err.field-0.0 ≡ record { tie = i; fault = e } = search rules in
-    let is = c.tie-in-loop-i.ensures ∙ (MatchOption-at_some _ _ _ c.unwrap-tie.ensures c.tie.ensures).1 in
+    let is =
+    (MatchOption-at_some _ _ _ c.unwrap-tie.ensures c.tie.ensures).1
+    ∙ (MatchOption-at_some _ _ _ c.unwrap-read.ensures c.read_tie.ensures).2
+    in
     let inside : i < length fs = omega (arith, equations_length c.args.file.now, c.ties-i-end.ensures, c.loop-i-test.true) in
     let answer : PostedTo meaning b (nth_equation fs i) ys (Err e) =
     rw (is, c.loop-i.invariant.1, stop.1) at c.post.ensures.answer in
@@ -46,7 +49,10 @@ loop-i-preserved g c =
     let b = c.loop-i.self in
     let ys = c.args.multipliers.now in
     let on = accepted Stop c.post.result _ _ c.in_ok-map_err.ensures.cases c.in_ok-map_err.ensures.variant in
-    let is = c.tie-in-loop-i.ensures ∙ (MatchOption-at_some _ _ _ c.unwrap-tie.ensures c.tie.ensures).1 in
+    let is =
+    (MatchOption-at_some _ _ _ c.unwrap-tie.ensures c.tie.ensures).1
+    ∙ (MatchOption-at_some _ _ _ c.unwrap-read.ensures c.read_tie.ensures).2
+    in
     let inside : i < length fs = omega (arith, equations_length c.args.file.now, c.ties-i-end.ensures, c.loop-i-test.true) in
     let answer : PostedTo meaning b (nth_equation fs i) ys (Ok on.0) = rw (is, c.loop-i.invariant.1, on.1) at c.post.ensures.answer in
     let posted : Posted meaning b (nth_equation fs i) (Ok on.0) c.post.new.self = rw (is, on.1) at c.post.ensures.book in
