@@ -19,6 +19,9 @@ pub fn total_at<S: Scale>(tie: &SoundTie<S>, row: &[u32]) -> u32
     requires whole { places (shape tie.now.layout.now) ≤ length row.now }
     ensures { let m = S.Scale.meaning tie.now.scale.now in Code m result × (result ≡ total m tie.now.tie.terms.now (row_of (shape tie.now.layout.now) row.now)) }
 {
+    if tie.tie.terms.is_empty() {
+        return 0;
+    }
     if let [term] = tie.tie.terms {
         let code = row[tie.layout.place(term.head, term.counter)];
         return tie.scale.product(term.factor, code);
