@@ -1,5 +1,5 @@
 -- What divides a number has no higher level.
-use Rattle.std.proofs.Common.{◌≡◌, ℕ, ◌+◌, ◌<◌, ◌≤◌, List, [], ◌∷◌, ◌++◌, length, get_or, refl, sym, subst, subst₂, ap, ◌∙◌, arith, below_more}
+use Rattle.std.proofs.Common.{◌≡◌, ℕ, ◌+◌, ◌<◌, ◌≤◌, List, [], ◌∷◌, ◌++◌, length, get_or, sym, subst, ap, ◌∙◌, arith, below_more}
 use Rattle.std.proofs.lemmas.List.{get_or_append_left, get_or_push, length_push}
 use Rattle.scale.specs.Meaning.{Meaning, Laws, Code, Quotient, power}
 use Rattle.ties.specs.Layouts.{Shape, places}
@@ -44,39 +44,44 @@ pub least :
 least m l s e xs k pivots i h = quotient_level m l _ _ _ pivots.formed.divisor (pivots.divides i h)
 
 -- one product more is scanned: the one chosen divides it, or it is chosen itself
-pub scanned_more :
-    (m : Meaning) (ds qs : List ℕ) (n p q : ℕ)
-    → Scanned m ds n p qs
-    → m.level (get_or ds p 0) ≤ m.level (get_or ds n 0)
-    → Quotient m (get_or ds n 0) (get_or ds p 0) q
-    → Scanned m ds (n + 1) p (qs ++ (q ∷ []))
-scanned_more m ds qs n p q before low quotient =
-    let P : ℕ → Type 0 = λ k. Quotient m (get_or ds (p + k) 0) (get_or ds p 0) (get_or (qs ++ (q ∷ [])) k 0) in
-    let last : P (length qs) =
-    subst₂ (λ (i c : ℕ). Quotient m (get_or ds i 0) (get_or ds p 0) c) (sym before.count)
-    (sym (get_or_push qs q 0 (length qs) refl)) quotient in
-    let old : (k : ℕ) → k < length qs → P k =
-    λ k h. subst (λ (c : ℕ). Quotient m (get_or ds (p + k) 0) (get_or ds p 0) c) (sym (get_or_append_left qs (q ∷ []) 0 k h)) (before.found k h) in
-    record {
-      lowest = (before.lowest.0, below_more (λ i. m.level (get_or ds p 0) ≤ m.level (get_or ds i 0)) n before.lowest.1 low);
-      count = omega (arith, length_push qs q, before.count);
-      found = λ k h. below_more P (length qs) old last k (omega (arith, length_push qs q));
-    }
+module _ (m : Meaning) (ds qs : List ℕ) (n : ℕ) where
+  found_more :
+      (p q : ℕ)
+      → length qs ≡ n
+      → ((i : ℕ) → p ≤ i → i < n → Quotient m (get_or ds i 0) (get_or ds p 0) (get_or qs i 0))
+      → Quotient m (get_or ds n 0) (get_or ds p 0) q
+      → (i : ℕ)
+      → p ≤ i
+      → i < n + 1
+      → Quotient m (get_or ds i 0) (get_or ds p 0) (get_or (qs ++ (q ∷ [])) i 0)
+  found_more p q count before quotient i from below =
+      below_more (λ i. p ≤ i → Quotient m (get_or ds i 0) (get_or ds p 0) (get_or (qs ++ (q ∷ [])) i 0)) n
+      (λ i h low. subst (Quotient m (get_or ds i 0) (get_or ds p 0)) (sym (get_or_append_left qs (q ∷ []) 0 i (omega (arith, count)))) (before i low h))
+      (λ low. subst (Quotient m (get_or ds n 0) (get_or ds p 0)) (sym (get_or_push qs q 0 n count)) quotient) i below from
 
-pub scanned_new :
-    (m : Meaning) (l : Laws m) (ds qs : List ℕ) (n p : ℕ)
-    → n < length ds
-    → Code m (get_or ds n 0)
-    → Scanned m ds n p qs
-    → m.level (get_or ds n 0) < m.level (get_or ds p 0)
-    → Scanned m ds (n + 1) n (m.one ∷ [])
-scanned_new m l ds qs n p inside code before low =
-    record {
-      lowest = (inside, below_more (λ i. m.level (get_or ds n 0) ≤ m.level (get_or ds i 0)) n (λ i h. omega (arith, low, before.lowest.1 i h)) (omega arith));
-      count = refl;
-      found = λ k h.
-          let first : 0 ≡ k = omega arith in
-          let at : n ≡ n + 0 = omega arith in
-          subst (λ (i : ℕ). Quotient m (get_or ds (n + i) 0) (get_or ds n 0) (get_or (m.one ∷ []) i 0)) first
-          (subst (λ (i : ℕ). Quotient m (get_or ds i 0) (get_or ds n 0) m.one) at (l.one_code, l.product_one _ code));
-    }
+  pub scanned_more :
+      (p q : ℕ)
+      → Scanned m ds n p qs
+      → m.level (get_or ds p 0) ≤ m.level (get_or ds n 0)
+      → Quotient m (get_or ds n 0) (get_or ds p 0) q
+      → Scanned m ds (n + 1) p (qs ++ (q ∷ []))
+  scanned_more p q before low quotient =
+      record {
+        lowest = (before.lowest.0, below_more (λ i. m.level (get_or ds p 0) ≤ m.level (get_or ds i 0)) n before.lowest.1 low);
+        count = omega (arith, length_push qs q, before.count);
+        found = found_more p q before.count before.found quotient;
+      }
+
+  pub scanned_new :
+      (l : Laws m) (p : ℕ)
+      → n < length ds
+      → Code m (get_or ds n 0)
+      → Scanned m ds n p qs
+      → m.level (get_or ds n 0) < m.level (get_or ds p 0)
+      → Scanned m ds (n + 1) n (qs ++ (m.one ∷ []))
+  scanned_new l p inside code before low =
+      record {
+        lowest = (inside, below_more (λ i. m.level (get_or ds n 0) ≤ m.level (get_or ds i 0)) n (λ i h. omega (arith, low, before.lowest.1 i h)) (omega arith));
+        count = omega (arith, length_push qs m.one, before.count);
+        found = found_more n m.one before.count (λ i from below. absurd (omega arith)) (l.one_code, l.product_one _ code);
+      }

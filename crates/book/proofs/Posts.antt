@@ -11,13 +11,12 @@ use Rattle.ties.specs.Equations.{Contradictory, Count, Equation, Solves}
 use Rattle.ties.specs.Faults.{Sound}
 use Rattle.multipliers.specs.Refuting.{Refutes}
 use Rattle.linear.proofs.Moves.{slid}
-use Rattle.book.specs.declared.measured.Measured.{Measured}
+use Rattle.book.specs.declared.pivot.Pivot.{Pivot}
 use Rattle.book.specs.declared.standing.Standing.{Standing}
 use Rattle.book.specs.declared.table.Table.{Table}
 use Rattle.book.specs.Rows.{Codes}
 use Rattle.book.specs.Sheets.{Exact, generator_of, point_of}
-use Rattle.book.specs.Standing.{Built, Stands, Stepped, TakenIn, equation_of, ledger, nth_standing, nobody}
-use Rattle.book.specs.Measures.{Measures}
+use Rattle.book.specs.Standing.{Built, Pivots, Stands, Stepped, TakenIn, equation_of, ledger, nth_standing, nobody, rest}
 use Rattle.book.specs.Posting.{Accepted, Shown}
 use Rattle.book.proofs.Choosing.{least}
 use Rattle.book.proofs.Counted.{built_count, fall}
@@ -118,26 +117,23 @@ module _ (m : Meaning) (l : Laws m) (s : Shape) (t : Table) where
           );
         }
 
-    module _ (e : Equation) (sound : Sound m s e) (d : Measured) (measures : Measures m s e xs d) where
+    module _ (e : Equation) (sound : Sound m s e) (k : Pivot) (pivots : Pivots m s e xs k) where
       abbrev v : ℕ
-      v = m.level d.pivot.divisor
+      v = m.level k.divisor
 
       -- there are as many digits free as the tie fixes
-      pub enough_free : v ≤ m.level d.rest → digits m - v ≤ t.free
+      pub enough_free : v ≤ m.level (rest m s e xs) → digits m - v ≤ t.free
       enough_free low =
           (fall m l s within ks (length ks) xs t.free (le_refl (length ks)) stands
           (built_count m l s within ks (length ks) xs t.free (le_refl (length ks)) stands)
-          e d.pivot.number v sound measures.pivots.formed.number (ap m.level (sym measures.pivots.divisor))
-          (least m l s e xs d.pivot measures.pivots)
-          (subst (λ (a : ℕ). v ≤ m.level a) measures.missing low)).0
+          e k.number v sound pivots.formed.number (ap m.level (sym pivots.divisor)) (least m l s e xs k pivots) low).0
 
-      pub contradictory : m.level d.rest < v → Contradictory m s (ledger t ++ (e ∷ []))
+      pub contradictory : m.level (rest m s e xs) < v → Contradictory m s (ledger t ++ (e ∷ []))
       contradictory low =
-          let here = measures.pivots.divisor in
+          let here = pivots.divisor in
           subst (λ (es : List Equation). Contradictory m s (es ++ (e ∷ []))) whole
-          (refused m l s within ks (length ks) xs t.free (le_refl (length ks)) stands e sound d.pivot.number
-          (λ i h. rw (← here) (least m l s e xs d.pivot measures.pivots i h))
-          (rw (← here, ← measures.missing) low))
+          (refused m l s within ks (length ks) xs t.free (le_refl (length ks)) stands e sound k.number
+          (λ i h. rw (← here) (least m l s e xs k pivots i h)) (rw (← here) low))
 
   -- the tie is taken in
   module _ (within : Within m s) (stands : Stands m s t) (e : Equation) (new : Table) (fixed : ℕ) (took : TakenIn m s e t new fixed) where

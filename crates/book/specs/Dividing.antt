@@ -1,5 +1,5 @@
 -- A pivot among products.
-use Rattle.std.specs.Prelude.{◌≡◌, ℕ, ◌+◌, ◌<◌, ◌≤◌, List, length, slice_index}
+use Rattle.std.specs.Prelude.{◌≡◌, ℕ, ◌<◌, ◌≤◌, List, length, slice_index}
 use Rattle.scale.specs.Meaning.{Meaning, Quotient, power}
 use Rattle.book.specs.declared.dividing.Choice.{Choice}
 use Rattle.book.specs.declared.dividing.Divisor.{Divisor}
@@ -18,12 +18,12 @@ Lowest m ds n p =
 -- the p-th is chosen among the first n, and the quotients by it of those from it on are found
 pub record Scanned (m : Meaning) (ds : List ℕ) (n p : ℕ) (qs : List ℕ) : Type 0 where
   pub lowest : Lowest m ds n p
-  pub count : p + length qs ≡ n
-  pub found : (k : ℕ) → k < length qs → Quotient m (slice_index ds (p + k)) (slice_index ds p) (slice_index qs k)
+  pub count : length qs ≡ n
+  pub found : (i : ℕ) → p ≤ i → i < n → Quotient m (slice_index ds i) (slice_index ds p) (slice_index qs i)
 
--- one of them is chosen, and what divides by it
-pub record Chosen (m : Meaning) (ds : List ℕ) (c : Choice) : Type 0 where
-  pub scanned : Scanned m ds (length ds) c.number c.quotients.items
+-- one of them is chosen, with what divides by it, and the quotients by it of those from it on are found
+pub record Chosen (m : Meaning) (ds : List ℕ) (c : Choice) (qs : List ℕ) : Type 0 where
+  pub scanned : Scanned m ds (length ds) c.number qs
   pub divisor : DividesBy m (slice_index ds c.number) c.divisor
 
 -- a number divides each of the first list, and these are the quotients

@@ -1,6 +1,6 @@
 // The choice of a pivot among products: one that divides all of them, with the quotients.
 
-ghost use Rattle.std.specs.Prelude.{◌≡◌, ℕ, ◌≤◌, length, slice_index};
+ghost use Rattle.std.specs.Prelude.{◌≡◌, ℕ, ◌≤◌, [], length, slice_index};
 ghost use Rattle.book.specs.Dividing.{Chosen, Divides, DividesBy};
 ghost use Rattle.book.specs.Rows.{Codes};
 ghost use Rattle.scale.specs.Meaning.{Code, Divided, power};
@@ -59,56 +59,47 @@ impl Divisor {
     }
 }
 
-// The product chosen among those that were looked at: its number, what divides by it, and the quotients of those from it
-// on.
-#[derive(Drop)]
+// The product chosen among those that were looked at: its number, and what divides by it.
+#[derive(Clone, Copy)]
 pub struct Choice {
     pub number: usize,
     pub divisor: Divisor,
-    pub quotients: ArrayVec<u32, 32>,
 }
 
-// The last product that the one chosen before it does not divide: it divides all of them.
-pub fn choose<S: Scale>(scale: &S, products: &ArrayVec<u32, 32>) -> Choice
+// The last product that the one chosen before it does not divide: it divides all of them. The lent list, which is
+// empty, gets a number for each product, and for those from the chosen one on that is the quotient.
+pub fn choose<S: Scale>(
+    scale: &S,
+    products: &ArrayVec<u32, 32>,
+    quotients: &mut ArrayVec<u32, 32>,
+) -> Choice
     requires codes { Codes (S.Scale.meaning scale.now) products.now.items }
     requires some { 1 ≤ length products.now.items }
-    ensures { Chosen (S.Scale.meaning scale.now) products.now.items result }
+    requires blank { quotients.old.items ≡ [] }
+    ensures { Chosen (S.Scale.meaning scale.now) products.now.items result quotients.new.items }
 {
     let mut number = 0;
     let mut divisor = Divisor::of(scale, products[0]);
-    let mut quotients = ArrayVec::new();
     for (i, product) in products.iter().enumerate() {
         match divisor.quotient(scale, *product) {
             Some(quotient) => quotients.push(quotient),
             None => {
                 number = i;
                 divisor = Divisor::of(scale, *product);
-                quotients.clear();
                 quotients.push(scale.one());
             }
         }
     }
-    Choice {
-        number,
-        divisor,
-        quotients,
-    }
+    Choice { number, divisor }
 }
 
-// The quotients of all products by the chosen one.
-pub fn quotients<S: Scale>(
-    scale: &S,
-    products: &ArrayVec<u32, 32>,
-    choice: &Choice,
-) -> ArrayVec<u32, 32>
-    requires codes { Codes (S.Scale.meaning scale.now) products.now.items }
-    requires chosen { Chosen (S.Scale.meaning scale.now) products.now.items choice.now }
-    ensures { let ds = products.now.items in Divides (S.Scale.meaning scale.now) ds (slice_index ds choice.now.number) result.items }
+// Writes the quotients of the products before the chosen one over what stands there.
+pub fn divide_before<S: Scale>(scale: &S, products: &[u32], choice: Choice, quotients: &mut [u32])
+    requires codes { Codes (S.Scale.meaning scale.now) products.now }
+    requires chosen { Chosen (S.Scale.meaning scale.now) products.now choice quotients.old }
+    ensures { let ds = products.now in Divides (S.Scale.meaning scale.now) ds (slice_index ds choice.number) quotients.new }
 {
-    let mut quotients = ArrayVec::new();
-    for product in &products[..choice.number] {
-        quotients.push(choice.divisor.quotient(scale, *product).unwrap());
+    for (i, product) in products[..choice.number].iter().enumerate() {
+        quotients[i] = choice.divisor.quotient(scale, *product).unwrap();
     }
-    quotients.try_extend_from_slice(&choice.quotients).unwrap();
-    quotients
 }

@@ -1,6 +1,6 @@
 // Multipliers that show a contradiction, by back-substitution.
 
-ghost use Rattle.std.specs.Prelude.{◌≡◌, ℕ, ◌<◌, ◌≤◌, [], ◌∷◌, ◌++◌, length, vec_len, slice_index};
+ghost use Rattle.std.specs.Prelude.{◌≡◌, ℕ, None, ◌<◌, ◌≤◌, [], ◌∷◌, ◌++◌, length, vec_len, slice_index};
 ghost use Rattle.book.specs.Evidence.{Settled, against};
 ghost use Rattle.book.specs.Measures.{Measures};
 ghost use Rattle.book.specs.Rows.{Codes, Keeps};
@@ -12,7 +12,6 @@ ghost use Rattle.ties.specs.Equations.{equation};
 ghost use Rattle.ties.specs.Layouts.{Within, places, shape};
 
 use crate::dividing::quotient_of;
-use crate::measured::Measured;
 use crate::pivot::Pivot;
 use crate::table::Table;
 use multipliers::adding::add_terms;
@@ -47,23 +46,17 @@ fn settle<S: Scale>(tie: &SoundTie<S>, pivot: &Pivot, row: &mut [u32; 32]) -> u3
 }
 
 // Writes one multiplier for each standing tie in order, and one for the tie that contradicts them.
-pub fn refute<S: Scale>(
-    tie: &SoundTie<S>,
-    table: &Table,
-    measured: &Measured,
-    multipliers: &mut [u32],
-)
+pub fn refute<S: Scale>(tie: &SoundTie<S>, table: &Table, pivot: &Pivot, multipliers: &mut [u32])
     requires within { Within (S.Scale.meaning tie.now.scale.now) (shape tie.now.layout.now) }
     requires stands { Stands (S.Scale.meaning tie.now.scale.now) (shape tie.now.layout.now) table.now }
-    requires measures { Measures (S.Scale.meaning tie.now.scale.now) (shape tie.now.layout.now) (equation tie.now.tie) table.now.rows.items measured.now }
-    requires short { let m = S.Scale.meaning tie.now.scale.now in m.level measured.now.rest < m.level measured.now.pivot.divisor }
+    requires measures { Measures (S.Scale.meaning tie.now.scale.now) (shape tie.now.layout.now) (equation tie.now.tie) table.now.rows.items pivot.now None }
     requires room { vec_len table.now.standing < length multipliers.old }
     ensures { let es = ledger table.now ++ (equation tie.now.tie ∷ []) in Refutes (S.Scale.meaning tie.now.scale.now) (shape tie.now.layout.now) es multipliers.new × Keeps (length es) multipliers.old multipliers.new }
 {
     let count = table.standing.len();
     let scale = tie.scale;
     let layout = tie.layout;
-    let lead = scale.step_power(measured.pivot.fixed(scale));
+    let lead = scale.step_power(pivot.fixed(scale));
     let mut row = [0; 32];
     add_terms(tie, scale.product(lead, tie.raise()), &mut row);
     multipliers[count] = lead;

@@ -10,7 +10,6 @@ mod dividing;
 mod empty;
 mod evidence;
 pub mod fault;
-mod measured;
 mod measuring;
 mod pivot;
 pub mod reading;

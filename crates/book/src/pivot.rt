@@ -11,7 +11,7 @@ use scale::Scale;
 
 // The generator by which a tie reduces the others: its number and its row; the tie's raised product with it, which
 // divides those with all generators; and the quotients.
-#[derive(Drop)]
+#[derive(Default, Drop)]
 pub struct Pivot {
     pub number: usize,
     pub row: ArrayVec<u32, 32>,

@@ -1,6 +1,6 @@
 // Rows of codes.
 
-ghost use Rattle.std.specs.Prelude.{◌≡◌, Decides, ℕ, ◌+◌, ◌*◌, ◌<◌, ◌≤◌, length, slice_index};
+ghost use Rattle.std.specs.Prelude.{◌≡◌, Decides, ℕ, ◌+◌, ◌*◌, ◌<◌, ◌≤◌, [], length, slice_index};
 ghost use Rattle.book.specs.Measures.{Totals};
 ghost use Rattle.book.specs.Rows.{Codes, row_of};
 ghost use Rattle.book.specs.Sheets.{generator_of};
@@ -48,19 +48,18 @@ fn is_zero(row: &[u32]) -> bool
     greatest == 0
 }
 
-// The same at each generator.
-pub fn totals_at<S: Scale>(tie: &SoundTie<S>, rows: &[u32]) -> ArrayVec<u32, 32>
+// The same at each generator, in an empty list that is lent.
+pub fn totals_at<S: Scale>(tie: &SoundTie<S>, rows: &[u32], totals: &mut ArrayVec<u32, 32>)
     requires codes { Codes (S.Scale.meaning tie.now.scale.now) rows.now }
     requires size { let n = places (shape tie.now.layout.now) in length rows.now ≡ n + n * n }
-    ensures { Totals (S.Scale.meaning tie.now.scale.now) (shape tie.now.layout.now) (equation tie.now.tie) rows.now result.items }
+    requires blank { totals.old.items ≡ [] }
+    ensures { Totals (S.Scale.meaning tie.now.scale.now) (shape tie.now.layout.now) (equation tie.now.tie) rows.now totals.new.items }
 {
     let n = tie.layout.places();
-    let mut totals = ArrayVec::new();
     for i in 0..n {
         let at = n + i * n;
         totals.push(total_at(tie, &rows[at..at + n]));
     }
-    totals
 }
 
 // Adds `by` times a row to another.

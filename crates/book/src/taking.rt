@@ -1,14 +1,12 @@
 // Taking a tie into a table.
 
-ghost use Rattle.std.specs.Prelude.{ℕ, ◌<◌, List, vec_len, vec_capacity};
+ghost use Rattle.std.specs.Prelude.{ℕ, ◌<◌, List, Some, vec_len, vec_capacity};
 ghost use Rattle.book.specs.Measures.{Measures};
 ghost use Rattle.book.specs.Standing.{GivenBack, Stands, Stepped, TakenIn};
-ghost use Rattle.scale.specs.Meaning.{Quotient};
 ghost use Rattle.ties.specs.Equations.{equation};
 ghost use Rattle.ties.specs.Layouts.{Shape, Within, shape};
 
-use crate::measured::Measured;
-use crate::pivot::Step;
+use crate::pivot::{Pivot, Step};
 use crate::standing::Standing;
 use crate::table::Table;
 use scale::Scale;
@@ -16,28 +14,27 @@ use ties::sound::SoundTie;
 
 // Makes the pivot step of a tie, which moves the point by `shift` times the pivot, and answers the digits that it
 // fixes.
-pub fn take_in<S: Scale>(tie: &SoundTie<S>, table: &mut Table, measured: Measured, shift: u32) -> u8
+pub fn take_in<S: Scale>(tie: &SoundTie<S>, table: &mut Table, pivot: Pivot, shift: u32) -> u8
     requires within { Within (S.Scale.meaning tie.now.scale.now) (shape tie.now.layout.now) }
     requires stands { Stands (S.Scale.meaning tie.now.scale.now) (shape tie.now.layout.now) table.old }
-    requires measures { Measures (S.Scale.meaning tie.now.scale.now) (shape tie.now.layout.now) (equation tie.now.tie) table.old.rows.items measured }
-    requires quotient { Quotient (S.Scale.meaning tie.now.scale.now) measured.rest measured.pivot.divisor shift }
+    requires measures { Measures (S.Scale.meaning tie.now.scale.now) (shape tie.now.layout.now) (equation tie.now.tie) table.old.rows.items pivot (Some shift) }
     requires room { vec_len table.old.standing < vec_capacity table.old.standing }
     ensures { TakenIn (S.Scale.meaning tie.now.scale.now) (shape tie.now.layout.now) (equation tie.now.tie) table.old table.new result }
 {
-    let Measured { pivot, rest: _ } = measured;
     let fixed = pivot.fixed(tie.scale);
-    Step {
-        scale: tie.scale,
-        pivot: &pivot,
-        shift,
-    }
-    .turn(&mut table.rows);
     table.standing.push_reserved(Standing {
         tie: tie.to_owned(),
         pivot,
         shift,
         free: table.free,
     });
+    // The pivot is read where it stands now, so that it is copied only there.
+    Step {
+        scale: tie.scale,
+        pivot: &table.standing.last().unwrap().pivot,
+        shift,
+    }
+    .turn(&mut table.rows);
     table.free -= u16::from(fixed);
     fixed
 }

@@ -36,11 +36,13 @@ impl<S: Scale> SoundTie<'_, '_, S> {
     pub fn to_owned(&self) -> OwnedTie
         ensures { equation_in result ≡ equation self.now.tie }
     {
-        OwnedTie {
+        let mut owned = OwnedTie {
             target: self.tie.target,
             right: self.tie.right,
-            terms: ArrayVec::try_from(self.tie.terms).unwrap(),
-        }
+            terms: ArrayVec::new(),
+        };
+        owned.terms.try_extend_from_slice(self.tie.terms).unwrap();
+        owned
     }
 }
 

@@ -2,10 +2,10 @@ ghost use Rattle.book.specs.Posting.{Listed, Posted, PostedTo};
 ghost use Rattle.ties.specs.Equations.{equation};
 
 use crate::book::{Book, Open};
-use crate::dividing::quotient_of;
 use crate::evidence::refute;
 use crate::fault::PostFault;
 use crate::measuring::measure;
+use crate::pivot::Pivot;
 use crate::taking::take_in;
 use scale::Scale;
 use ties::tie::Tie;
@@ -25,11 +25,11 @@ impl<S: Scale> Book<S, Open> {
         if self.table.standing.len() >= 64 {
             return Err(PostFault::Full);
         }
-        let measured = measure(&tie, &self.table.rows);
-        match quotient_of(&self.scale, measured.rest, measured.pivot.divisor) {
-            Some(shift) => Ok(take_in(&tie, &mut self.table, measured, shift)),
+        let mut pivot = Pivot::default();
+        match measure(&tie, &self.table.rows, &mut pivot) {
+            Some(shift) => Ok(take_in(&tie, &mut self.table, pivot, shift)),
             None => {
-                refute(&tie, &self.table, &measured, multipliers);
+                refute(&tie, &self.table, &pivot, multipliers);
                 Err(PostFault::Contradiction)
             }
         }

@@ -6,6 +6,7 @@ use crate::book::Book;
 use crate::reading::Reading;
 use crate::rows::{total_at, totals_at};
 use crate::settling::settled_digits;
+use arrayvec::ArrayVec;
 use scale::Scale;
 use ties::fault::TieFault;
 use ties::tie::Tie;
@@ -19,7 +20,8 @@ impl<S: Scale, P> Book<S, P> {
         let sound = tie.check(&self.scale, &self.layout)?;
         let rows: &[u32] = &self.table.rows;
         let total = total_at(&sound, &rows[..self.layout.places()]);
-        let totals = totals_at(&sound, rows);
+        let mut totals = ArrayVec::new();
+        totals_at(&sound, rows, &mut totals);
         Ok(Reading {
             value: self.scale.sum(total, self.scale.negative(tie.right)),
             settled: settled_digits(&sound, &totals),

@@ -1,4 +1,4 @@
-use Rattle.std.proofs.Common.{ℕ, ◌+◌, ◌<◌, List, [], ◌∷◌, ◌++◌, length, get_or, sym, ◌∙◌, ap, ap₂, subst, subst₂}
+use Rattle.std.proofs.Common.{ℕ, ◌+◌, ◌<◌, List, [], ◌∷◌, ◌++◌, length, get_or, sym, ◌∙◌, ap, subst, subst₂}
 use Rattle.arrayvec.specs.ArrayVec.{ArrayVec}
 use Rattle.book.specs.declared.dividing.Divisor.{Divisor}
 use Rattle.book.specs.Dividing.{DividesBy, Scanned}
@@ -28,11 +28,10 @@ loop-i-preserved g c =
           (c.loop-i.invariant.0, c.loop-i.invariant.1, more))
       | in-None w ↦
           let low = rw c.deref-product-items.ensures.0 at w.in-None.ensures (get_or ds p 0) (c.requires.codes p) c.loop-i.invariant.1 in
-          let new = scanned_new m l ds _ i _ inside (c.requires.codes i) before low in
-          let alone = ap₂ (λ (qs : List ℕ) (q : ℕ). qs ++ (q ∷ [])) w.clear.ensures w.one.ensures in
+          let new = scanned_new m ds _ i l _ inside (c.requires.codes i) before low in
           let by = rw c.deref-product-items.ensures.0 at w.of-divisor-in-None.ensures in
           subst (λ d. P c.match-quotient.number d c.match-quotient.quotients.items) (sym w.divisor-is)
           (subst₂ (λ q qs. P q w.of-divisor-in-None.result qs) (sym w.number-is)
-          (sym (ap items w.quotients-is ∙ w.push-in-None.ensures.items ∙ alone))
+          (sym (ap items w.quotients-is ∙ w.push-in-None.ensures.items ∙ ap (λ (q : ℕ). c.loop-i.quotients.items ++ (q ∷ [])) w.one.ensures))
           (inside, by, new))
     ]

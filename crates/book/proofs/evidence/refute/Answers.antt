@@ -78,7 +78,7 @@ loop-k-init g c =
     let ks = vec_items c.args.table.now.standing in
     let xs = vec_items c.args.table.now.rows in
     let pivots = c.requires.measures.pivots in
-    let p = c.args.measured.now.pivot in
+    let p = c.args.pivot.now in
     let ys = c.args.multipliers.now in
     let lead = c.step_power-lead.result in
     let count : c.len-count.result ≡ length ks = c.len-count.ensures ∙ c.args.table.now.standing.ok.0 in
@@ -171,7 +171,7 @@ returns g c =
     let ks = vec_items table.standing in
     let xs = vec_items table.rows in
     let pivots = c.requires.measures.pivots in
-    let p = c.args.measured.now.pivot in
+    let p = c.args.pivot.now in
     let ys = c.loop-k.multipliers in
     let count : c.len-count.result ≡ length ks = c.len-count.ensures ∙ table.standing.ok.0 in
     let v = m.level p.divisor in
@@ -183,7 +183,7 @@ returns g c =
     let sounds = All-push (Sound m s) (ledger table) e (stands_sound m l s table c.requires.within c.requires.stands) c.args.tie.now.sound in
     let solves = stands_solved m l s table c.requires.within c.requires.stands in
     let most = l.level_most p.divisor pivots.formed.divisor in
-    let short : m.level (rest m s e xs) < v = subst (λ (a : ℕ). m.level a < v) c.requires.measures.missing c.requires.short in
+    let short : m.level (rest m s e xs) < v = c.requires.measures.shift in
     let longer : length (map equation_of ks ++ (e ∷ [])) ≡ suc (length ks) = omega (arith, length-append (map equation_of ks) (e ∷ []), length-map ks equation_of) in (
       done m l s ks e xs ys c.loop-k.row c.requires.within sounds solves ended v
           (ap (λ i. get_or ys i 0) (sym count) ∙ c.loop-k.invariant.3 ∙ lead_is) short most,

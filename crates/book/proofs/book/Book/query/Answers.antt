@@ -26,10 +26,10 @@ total_at-total-requires g c =
       whole = rw c.in_ok-sound.ensures.3 (omega (arith, long));
     }
 
-pub totals_at-totals-requires : goal.totals_at-totals-requires
-totals_at-totals-requires g c =
+pub totals_at-requires : goal.totals_at-requires
+totals_at-requires g c =
     let rows = rows_sheet g.met.S.Scale.lawful c.self.invariant _ c.deref-rows.ensures.value in
-    record { codes = rw c.in_ok-sound.ensures.2 rows.0; size = rw c.in_ok-sound.ensures.3 rows.1 }
+    record { codes = rw c.in_ok-sound.ensures.2 rows.0; size = rw c.in_ok-sound.ensures.3 rows.1; blank = c.new-totals.ensures }
 
 pub returns : goal.returns
 returns g c =
@@ -41,7 +41,7 @@ returns g c =
     let checked = c.in_ok-sound.ensures in
     let sound = checked.0 in
     let reached = rw (checked.1, checked.2, checked.3) at c.total_at-total.ensures in
-    let totals = rw (checked.1, checked.2, checked.3, c.deref-rows.ensures.value) at c.totals_at-totals.ensures in
+    let totals = rw (checked.1, checked.2, checked.3, c.deref-rows.ensures.value) at c.totals_at.ensures in
     let settled = rw (checked.1, checked.2, checked.3, c.deref.ensures.0) at c.settled_digits.ensures in
     let total_is : c.total_at-total.result ≡ total m e.terms (point_of s (vec_items b.table.rows)) =
     rw (← c.deref-rows.ensures.value)

@@ -1,28 +1,16 @@
-use Rattle.std.proofs.Common.{◌<◌, [], ◌∷◌, length, vec_items, ap, arith, length-append}
+use Rattle.std.proofs.Common.{◌<◌, None, [], ◌∷◌, length, vec_items, ap, arith, length-append}
 use Rattle.ties.specs.Equations.{equation}
 use Rattle.ties.specs.Layouts.{shape}
 use Rattle.book.specs.Measures.{Measures}
 use Rattle.book.specs.Standing.{ledger}
 use Rattle.book.proofs.Books.{ledger_length, rows_sheet}
-use Rattle.book.proofs.Coding.{rest_code}
 use Rattle.book.proofs.Posts.{accepted, contradictory, shown, taken_stands}
 use Rattle.book.proofs.book.posting.Book+S+Open.post.Goals as goal
 
-pub measure-measured-requires : goal.measure-measured-requires
-measure-measured-requires g c =
+pub measure-requires : goal.measure-requires
+measure-requires g c =
     let rows = rows_sheet g.met.S.Scale.lawful c.self.invariant _ c.deref.ensures.value in
-    record { codes = rw c.in_ok-tie.ensures.2 rows.0; size = rw c.in_ok-tie.ensures.3 rows.1 }
-
-pub quotient_of-requires : goal.quotient_of-requires
-quotient_of-requires g c =
-    let b = c.self.inside in
-    let l = g.met.S.Scale.lawful b.scale in
-    let checked = c.in_ok-tie.ensures in
-    let rows = rows_sheet g.met.S.Scale.lawful c.self.invariant _ c.deref.ensures.value in
-    let meas = rw (checked.1, checked.2, checked.3) at c.measure-measured.ensures in (
-      rw meas.missing (rest_code _ l (shape b.layout) (equation c.args.tie.now) checked.0 _ rows.0),
-      meas.pivots.formed.divisor,
-    )
+    record { codes = rw c.in_ok-tie.ensures.2 rows.0; size = rw c.in_ok-tie.ensures.3 rows.1; blank = (c.default-pivot.ensures.1.0, c.default-pivot.ensures.1.1.1) }
 
 pub invariant_of-self : goal.invariant_of-self
 invariant_of-self g c =
@@ -65,17 +53,17 @@ returns-clause-answer g c =
     let m = g.S.Scale.meaning b.scale in
     let s = shape b.layout in
     let e = equation c.args.tie.now in
-    let d = c.measure-measured.result in
+    let k = c.measure.new.pivot in
     let ready = c.self.invariant in
     let checked = c.in_ok-tie.ensures in
-    let meas : Measures m s e (vec_items b.table.rows) d =
-    rw (checked.1, checked.2, checked.3, c.deref.ensures.value) at c.measure-measured.ensures
+    let meas : Measures m s e (vec_items b.table.rows) k None =
+    rw (checked.1, checked.2, checked.3, c.deref.ensures.value) at c.in-None.ensures
     in
     rw (← c.self.view_is) (
       c.if-multipliers-lt64.false,
       checked.0,
       omega (arith, ledger_length b.table, c.len.ensures, c.if-len-ge64.false),
-      contradictory m (g.met.S.Scale.lawful b.scale) s b.table ready.within ready.stands e checked.0 d meas c.in-None.ensures,
+      contradictory m (g.met.S.Scale.lawful b.scale) s b.table ready.within ready.stands e checked.0 k meas.pivots meas.shift,
     )
 
 pub returns-clause-list : goal.returns-clause-list
