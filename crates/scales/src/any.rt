@@ -97,6 +97,8 @@ impl Scale for AnyScale {
         }
     }
 
+    // A loop over terms then asks for the kind once.
+    #[inline]
     fn gather(&self, total: u64, b: u32, c: u32) -> u64 {
         match self {
             AnyScale::Binary(s) => s.gather(total, b, c),
