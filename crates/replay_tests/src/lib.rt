@@ -3,4 +3,6 @@
 #![tactic(auto)]
 
 #[cfg(test)]
+mod own;
+#[cfg(test)]
 mod tests;

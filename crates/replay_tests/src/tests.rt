@@ -1,8 +1,10 @@
+use crate::own::Own;
 use book::fault::{LoadFault, PostFault};
 use book::reading::Reading;
 use replay::answer::Answer;
 use replay::call::{Call, Turn, View};
 use replay::replay;
+use scale::Scale;
 use scales::Binary;
 use std::test::Fail;
 use ties::tie::{Term, Tie};
@@ -113,5 +115,29 @@ fn writes_what_it_took_whole(rt: HostRuntime) -> Result<(), Fail> {
         )
     );
     assert!(rt; matches!(answers.get(2), Some(Answer::Write(Err(_), _))));
+    Ok(())
+}
+
+#[test]
+fn answers_over_a_scale_of_ones_own(rt: HostRuntime) -> Result<(), Fail> {
+    let own = Own {
+        counter: Binary::new(3)?,
+    };
+    for (total, code) in [(7, 7), (8, 0), (15, 7), (u64::from(u32::MAX) + 6, 5)] {
+        assert_eq!(rt; own.gathered(total), code);
+    }
+    let turns = [Turn {
+        while_open: &[Call::Post(FIRST, &[0; 64]), Call::View(View::Query(ASK_X))],
+        while_closed: &[],
+    }];
+    let answers = replay(rt.alloc(), own, 2, &[3], &turns)?;
+    assert!(rt; matches!(answers.get(0), Some(Answer::Post(Ok(2), _))));
+    assert!(rt;
+        matches!(
+            answers.get(1),
+            Some(Answer::Query(Ok(Reading { settled: 1, .. })))
+        )
+    );
+    assert_eq!(rt; answers.len(), 2);
     Ok(())
 }

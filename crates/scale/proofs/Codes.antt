@@ -1,5 +1,6 @@
 -- First facts of codes, for every scale.
-use Rattle.std.proofs.Common.{◌≡◌, ℕ, zero, suc, ◌^◌, ◌<◌, ◌≤◌, ap, ◌∙◌, ap₂, mod-lt, mod-eq_of_lt, arith}
+use Rattle.std.proofs.Common.{◌≡◌, ℕ, zero, suc, ◌+◌, ◌*◌, ◌/◌, ◌%◌, ◌^◌, ◌<◌, ◌≤◌, ap, ◌∙◌, ap₂, subst, le_trans, lt_of_not-le, mod-lt, mod-eq_of_lt, arith}
+use Rattle.std.proofs.Math.Nat.{div-add-mod, pow-le-pow_left, pow-le-pow_right}
 use native.Mathlib.Nat.{zero-mod, one-le-pow}
 use Rattle.scale.specs.Meaning.{Meaning, Laws, Code, reading, size, base, digits, power}
 
@@ -23,6 +24,22 @@ module _ (m : Meaning) (l : Laws m) where
 
   pub reading_zero : reading m 0 ≡ 0
   reading_zero = zero-mod (size m)
+
+  -- a code has 31 digits at most, and a number of no more bits than these is a code in any base
+  pub length_most : digits m < 32
+  length_most =
+      let more : 2 ^ digits m ≤ size m = pow-le-pow_left l.base_least (digits m) in
+      lt_of_not-le (λ (long : 32 ≤ digits m).
+      let high : 2 ^ 32 ≤ 2 ^ digits m = pow-le-pow_right (omega arith) long in
+      omega (arith, le_trans high (le_trans more l.size_most)))
+
+  pub bits_code : (a : ℕ) → a / 2 ^ digits m ≡ 0 → Code m a
+  bits_code a short =
+      let n : ℕ = 2 ^ digits m in
+      let whole : n * 0 + a % n ≡ a = subst (λ (k : ℕ). n * k + a % n ≡ a) short (div-add-mod a n) in
+      let below : a % n < n = mod-lt a (power_pos 2 (digits m) (omega arith)) in
+      let more : n ≤ size m = pow-le-pow_left l.base_least (digits m) in
+      omega (arith, whole, below, more)
 
   pub power_code : (k : ℕ) → Code m (power m k)
   power_code zero = l.one_code

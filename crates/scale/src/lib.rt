@@ -54,14 +54,15 @@ pub trait Scale {
         u64::from(self.add_product(total, b, c))
     }
 
-    // The code that a running total is read as.
+    // The code that a running total is read as. The mark alone is asked for, so that a sum may be made of this.
     fn gathered(&self, total: u64) -> u32
         ensures { let m = meaning self.now in result ≡ reading m total }
     {
-        if let Ok(total) = u32::try_from(total) {
-            return self.sum(total, 0);
-        }
         let Mark { base, length, .. } = self.mark();
+        // A number of so many bits is a code in any base.
+        if total >> length == 0 {
+            return total as u32;
+        }
         (total % u64::from(base).pow(u32::from(length))) as u32
     }
 
