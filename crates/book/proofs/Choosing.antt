@@ -68,6 +68,7 @@ module _ (m : Meaning) (ds qs : List ℕ) (n : ℕ) where
   scanned_more p q before low quotient =
       record {
         lowest = (before.lowest.0, below_more (λ i. m.level (get_or ds p 0) ≤ m.level (get_or ds i 0)) n before.lowest.1 low);
+        among = omega (arith, before.among);
         count = omega (arith, length_push qs q, before.count);
         found = found_more p q before.count before.found quotient;
       }
@@ -82,6 +83,7 @@ module _ (m : Meaning) (ds qs : List ℕ) (n : ℕ) where
   scanned_new l p inside code before low =
       record {
         lowest = (inside, below_more (λ i. m.level (get_or ds n 0) ≤ m.level (get_or ds i 0)) n (λ i h. omega (arith, low, before.lowest.1 i h)) (omega arith));
+        among = omega arith;
         count = omega (arith, length_push qs m.one, before.count);
         found = found_more n m.one before.count (λ i from below. absurd (omega arith)) (l.one_code, l.product_one _ code);
       }

@@ -18,6 +18,7 @@ Lowest m ds n p =
 -- the p-th is chosen among the first n, and the quotients by it of those from it on are found
 pub record Scanned (m : Meaning) (ds : List ℕ) (n p : ℕ) (qs : List ℕ) : Type 0 where
   pub lowest : Lowest m ds n p
+  pub among : p ≤ n
   pub count : length qs ≡ n
   pub found : (i : ℕ) → p ≤ i → i < n → Quotient m (slice_index ds i) (slice_index ds p) (slice_index qs i)
 
