@@ -1,5 +1,5 @@
-// A scale of a caller's own, with the eight functions that must be given. It counts in base 2, and its sum is how a
-// running total is read.
+// A scale of a caller's own, with the eight functions that must be given. It counts in base 2, and its sum is the reading
+// of a running total.
 
 ghost use Rattle.scales.specs.Kinds.{binary_mark};
 ghost use Rattle.scales.specs.Known.{named_laws};
